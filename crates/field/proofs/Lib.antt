@@ -1,0 +1,9 @@
+pub mod Computed
+pub mod Reciprocal
+pub mod ModularLaws
+pub mod Additive
+pub mod BinaryLaws
+pub mod Logarithms
+pub mod Abstract
+pub mod Roots
+pub mod Numbers

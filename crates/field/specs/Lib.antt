@@ -1,0 +1,5 @@
+pub mod Meaning
+pub mod Modular
+pub mod Binary
+pub mod Tables
+pub mod Polynomial
