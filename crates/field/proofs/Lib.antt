@@ -7,3 +7,4 @@ pub mod Logarithms
 pub mod Abstract
 pub mod Roots
 pub mod Numbers
+pub mod Questions

@@ -1,0 +1,5 @@
+pub mod Counting
+pub mod Symbols
+pub mod Digits
+pub mod ReedSolomonLaws
+pub mod ConcatenationLaws
