@@ -1,6 +1,6 @@
 -- The laws of a concatenation, from those of its parts.
 -- Assumes nothing.
-use mathlib.Core.Path.{_≡_, refl, sym, ap, _∙_}
+use mathlib.Core.Path.{_≡_, refl, sym, ap, ap₂, _∙_}
 use mathlib.Core.Logic.{⊎-elim}
 use mathlib.Core.Bool.{Bool, true, false, cond, _&&_}
 use Prim.Native.Nat.{ℕ, zero, suc, _+_, _*_, _/_, _%_, _<_, _≤_, zero-le}
@@ -13,7 +13,7 @@ use Rattle.std.proofs.shelf.Tests.{cases-lt, lt-ltb, le-ltb, ltb-true, leb-true
 use Rattle.std.proofs.shelf.Bits.{div-below, le-div, div-mul-add, mod-mul-add}
 use Rattle.field.specs.Polynomial.{agreements}
 use Rattle.code.specs.Meaning.{CodeMeaning, CodeLaws, symbolAt, lone}
-use Rattle.code.specs.Concatenations.{concatenated, concatenatedOf, fitTogether}
+use Rattle.code.specs.Concatenation.{concatenated, concatenatedOf, fitTogether}
 use Rattle.code.proofs.Counting.{agreements-le, agreements-same, agreements-split}
 use Rattle.code.proofs.Symbols.{symbol-some, symbol-in, symbol-no-user, symbol-no-position, lone-laws}
 
@@ -43,7 +43,7 @@ module _ (o i : CodeMeaning) (lo : CodeLaws o) (li : CodeLaws i) (covered : o .a
     blocks-few : (b : ℕ) → b ≤ o .length
         → agreements (concatenated o i .symbol u) (concatenated o i .symbol v) (b * i .length)
         ≤ agreements (o .symbol u) (o .symbol v) b * i .length + b * i .overlap
-    blocks-few zero h = rw zero-mul zero-le
+    blocks-few zero h = rw (zero-mul (i .length)) zero-le
     blocks-few (suc b) h =
         let F = concatenated o i .symbol u in
         let G = concatenated o i .symbol v in
@@ -97,32 +97,34 @@ concatenatedOf-laws o i lo li =
 
 -- ---- what the code works out
 
-module _ (o i : CodeMeaning) (lo : CodeLaws o) (li : CodeLaws i) (e : true ≡ fitTogether o i) (n : ℕ) (len : n ≡ i .length) (u p : ℕ) where
-  positive : 0 < n
+module _ (o i : CodeMeaning) (lo : CodeLaws o) (li : CodeLaws i) (e : true ≡ fitTogether o i) (u p block place : ℕ)
+    (block-is : block ≡ p / i .length) (place-is : place ≡ p % i .length) where
+  positive : 0 < i .length
   positive = omega (arith, li .length-low)
 
   whole : symbolAt (concatenatedOf o i) u p ≡ symbolAt (concatenated o i) u p
   whole = ap (λ m. symbolAt m u p) (cond-true _ _ _ (sym e))
 
   -- an outer symbol is an inner user, whose symbol it is
-  pub outer-some : (s : ℕ) (r : Option ℕ) → Some s ≡ symbolAt o u (p / n) → r ≡ symbolAt i s (p % n) → r ≡ symbolAt (concatenatedOf o i) u p
+  pub outer-some : (s : ℕ) (r : Option ℕ) → Some s ≡ symbolAt o u block → r ≡ symbolAt i s place → r ≡ symbolAt (concatenatedOf o i) u p
   outer-some s r h k =
       let parts = fit-parts o i (sym e) in
-      let found = symbol-some o u (p / n) s h in
-      let user : s < i .users = omega (arith, lo .symbol-below u (p / n) (found .0) (found .1), parts .0) in
-      let place : p < o .length * i .length = ⊎-elim (λ h. h) (λ h. absurd (omega (arith, le-div (o .length) p (i .length) (omega arith) h, ap (λ (n : ℕ). p / n) len))) (cases-lt p (o .length * i .length)) in
-      let inside : p % n < i .length = omega (arith, mod-lt p positive) in
-      k ∙ symbol-in i s (p % n) user inside
-      ∙ ap (λ (s : ℕ). Some (i .symbol s (p % n))) (found .2)
-      ∙ ap (λ (n : ℕ). Some (i .symbol (o .symbol u (p / n)) (p % n))) len
-      ∙ sym (symbol-in (concatenated o i) u p (found .0) place) ∙ sym whole
+      let found = symbol-some o u block s h in
+      let user : s < i .users = omega (arith, lo .symbol-below u block (found .0) (found .1), parts .0) in
+      let inside : p < o .length * i .length =
+      ⊎-elim (λ h. h) (λ h. absurd (omega (arith, le-div (o .length) p (i .length) positive h))) (cases-lt p (o .length * i .length)) in
+      k ∙ symbol-in i s place user (omega (arith, mod-lt p positive))
+      ∙ ap₂ (λ (s j : ℕ). Some (i .symbol s j)) (found .2 ∙ ap (o .symbol u) block-is) place-is
+      ∙ sym (symbol-in (concatenated o i) u p (found .0) inside) ∙ sym whole
 
   -- without an outer symbol, the user or the position is out of range
-  pub outer-none : None ≡ symbolAt o u (p / n) → None ≡ symbolAt (concatenatedOf o i) u p
+  pub outer-none : None ≡ symbolAt o u block → None ≡ symbolAt (concatenatedOf o i) u p
   outer-none h =
       ⊎-elim
       (λ x. ⊎-elim
-      (λ y. let z : None ≡ Some (o .symbol u (p / n)) = h ∙ symbol-in o u (p / n) x (div-below p n (o .length) positive (omega (arith, ap (λ (n : ℕ). o .length * n) len))) in
+      (λ y.
+      let inside : block < o .length = omega (arith, div-below p (i .length) (o .length) positive y) in
+      let z : None ≡ Some (o .symbol u block) = h ∙ symbol-in o u block x inside in
       let no : _≡_ {A = ℕ} 0 1 = cc in absurd (omega arith))
       (λ y. sym (symbol-no-position (concatenated o i) u p y) ∙ sym whole)
       (cases-lt p (o .length * i .length)))

@@ -8,7 +8,7 @@ use native.Mathlib.Omega.{arith}
 use lib.ListN.{length, getD, length-append}
 use Rattle.std.proofs.shelf.Bits.{div-below}
 use Rattle.field.proofs.Numbers.{Below}
-use Rattle.code.specs.ReedSolomon.{digits}
+use Rattle.code.specs.Polynomials.{digits}
 
 pub digits-length : (q k u : ℕ) → length (digits q k u) ≡ k
 digits-length q zero u = refl

@@ -4,24 +4,22 @@ use mathlib.Core.Path.{_≡_, refl, sym, ap, ap₂, _∙_, subst}
 use mathlib.Core.Logic.{_⊎_, inl, inr, ⊎-elim}
 use mathlib.Core.Bool.{Bool, true, false, cond}
 use mathlib.Core.List.{List, [], _∷_, _++_}
-use Prim.Native.Nat.{ℕ, zero, suc, _+_, _-_, _*_, _/_, _%_, _^_, _<_, _≤_}
-use native.Mathlib.Nat.{mod-lt, mod-eq-of-lt, one-le-pow, pow-suc, pow-le-pow-right, mul-comm, mul-div-cancel}
+use Prim.Native.Nat.{ℕ, zero, suc, _+_, _-_, _/_, _%_, _^_, _<_, _≤_}
+use native.Mathlib.Nat.{mod-lt, one-le-pow}
 use native.Mathlib.Numerals.{add-one}
 use native.Mathlib.Omega.{arith}
-use lib.Dec.{eqb, ltb, leb, lit≤}
+use lib.Dec.{eqb, ltb}
 use lib.ListN.{length, getD}
-use Rattle.std.specs.declared.option.Option.{Option}
-use Rattle.std.specs.declared.option.Option.the-variants.{Some, None}
-use Rattle.std.proofs.shelf.Bits.{div-below}
-use Rattle.std.proofs.shelf.Tests.{cases-lt, cases-eq, lt-ltb, le-ltb, lt-leb, ne-eqb, eqb-true, cond-true, cond-false, cond-both}
-use Rattle.field.specs.Meaning.{FieldMeaning, FieldLaws, pairAnswer}
+use Rattle.std.proofs.shelf.Tests.{cases-lt, cases-eq, lt-ltb, le-ltb, ne-eqb, eqb-true, cond-true, cond-false, cond-both}
+use Rattle.field.specs.Meaning.{FieldMeaning, FieldLaws}
 use Rattle.field.specs.Polynomial.{valueAt, agreements}
-use Rattle.field.proofs.Questions.{pair-answered, pair-some, pair-never-none}
 use Rattle.field.proofs.Numbers.{Below, value-below, few-agreements, values-under-top}
-use Rattle.code.specs.Meaning.{CodeMeaning, CodeLaws, symbolAt, lone}
-use Rattle.code.specs.ReedSolomon.{digits, plain, plainOf, doublyExtended, extendedOf}
-use Rattle.code.proofs.Counting.{agreements-le, agreements-same, agreements-more}
-use Rattle.code.proofs.Symbols.{symbol-in, lone-laws}
+use Rattle.code.specs.Meaning.{CodeMeaning, CodeLaws, lone}
+use Rattle.code.specs.Polynomials.{digits}
+use Rattle.code.specs.Plain.{plain, plainOf}
+use Rattle.code.specs.DoublyExtended.{doublyExtended, extendedOf}
+use Rattle.code.proofs.Counting.{agreements-same, agreements-more}
+use Rattle.code.proofs.Symbols.{lone-laws}
 use Rattle.code.proofs.Digits.{digits-length, digits-below, digits-tell, digits-top, top-digit}
 
 module _ (f : FieldMeaning) (laws : FieldLaws f) where
@@ -88,7 +86,7 @@ module _ (f : FieldMeaning) (laws : FieldLaws f) where
   element-symbol : (k u i : ℕ) → i < f .size → doublyExtended f k .symbol u i ≡ valueAt f (digits (f .size) k u) i
   element-symbol k u i h = cond-true _ _ _ (lt-ltb _ _ h)
 
-  pub top-symbol : (k u : ℕ) → doublyExtended f (suc k) .symbol u (f .size) ≡ u / f .size ^ k % f .size
+  top-symbol : (k u : ℕ) → doublyExtended f (suc k) .symbol u (f .size) ≡ u / f .size ^ k % f .size
   top-symbol k u =
       let last : suc k - 1 ≡ k = omega arith in
       cond-false _ _ _ (le-ltb (f .size) (f .size) (omega arith))
@@ -148,91 +146,3 @@ module _ (f : FieldMeaning) (laws : FieldLaws f) where
       (λ e. let same = eqb-true _ _ e in
       extended-laws k low (omega arith) (subst (λ (q : ℕ). q ^ k ≤ 2 ^ 32) (sym same) count))
       (λ _. lone-laws)
-
--- ---- what the code works out
-
-power-suc : (b n : ℕ) → b ^ (n + 1) ≡ b ^ n * b
-power-suc b n = ap (λ (i : ℕ). b ^ i) (add-one n) ∙ pow-suc b n
-
--- a power that has passed the bound stays above it
-pub power-passed : (b i n p : ℕ) → 0 < b → i < n → p ≡ b ^ i → 2 ^ 32 < p * b → None ≡ cond (leb (b ^ n) (2 ^ 32)) (Some (b ^ n)) None
-power-passed b i n p h l e big =
-    let grown : b ^ (i + 1) ≤ b ^ n = pow-le-pow-right h (omega arith) in
-    let here : p * b ≡ b ^ (i + 1) = ap (λ (x : ℕ). x * b) e ∙ sym (power-suc b i) in
-    sym (cond-false _ _ _ (lt-leb (b ^ n) (2 ^ 32) (omega arith)))
-
-pub power-more : (b i p : ℕ) → p ≡ b ^ i → p * b ≡ b ^ (i + 1)
-power-more b i p e = ap (λ (x : ℕ). x * b) e ∙ sym (power-suc b i)
-
-module _ (f : FieldMeaning) (laws : FieldLaws f) (size : ℕ) (sized : size ≡ f .size) (k number x rest : ℕ) (more : ¬ (k ≡ 0)) (element : x < size)
-    (below : Some rest ≡ Some (valueAt f (digits size (k - 1) (number / size)) x)) where
-  positive : 0 < size
-  positive = omega (arith, laws .size-low)
-
-  rest-is : rest ≡ valueAt f (digits size (k - 1) (number / size)) x
-  rest-is = cc
-
-  rest-below : rest < f .size
-  rest-below =
-      subst (λ (v : ℕ). v < f .size) (sym rest-is)
-      (value-below f laws (digits size (k - 1) (number / size)) (subst (λ (q : ℕ). Below q (digits size (k - 1) (number / size))) sized (digits-below size positive (k - 1) (number / size)))
-      x (omega arith))
-
-  place-below : x < f .size
-  place-below = omega arith
-
-  -- the coefficients above the lowest have a value, so that its product with x is there
-  pub product-there : None ≡ pairAnswer f (f .product) x rest → ⊥
-  product-there = pair-never-none f (f .product) x rest place-below rest-below
-
-  pub value-step : (product : ℕ) (r : Option ℕ) → Some product ≡ pairAnswer f (f .product) x rest → r ≡ pairAnswer f (f .sum) (number % size) product
-      → r ≡ Some (valueAt f (digits size k number) x)
-  value-step product r e h =
-      let digit : number % size < f .size = omega (arith, mod-lt number positive) in
-      let is : product ≡ f .product x rest = pair-some f (f .product) x rest place-below rest-below product e in
-      let product-below : product < f .size = subst (λ (p : ℕ). p < f .size) (sym is) (laws .product-closed x rest place-below rest-below) in
-      let last : suc (k - 1) ≡ k = omega arith in
-      h ∙ pair-answered f (f .sum) (number % size) product digit product-below
-      ∙ ap (λ (p : ℕ). Some (f .sum (number % size) p)) (is ∙ ap (f .product x) rest-is)
-      ∙ ap (λ (n : ℕ). Some (valueAt f (digits size n number) x)) last
-
--- ---- the position of the top coefficient
-
-module _ (f : FieldMeaning) (laws : FieldLaws f) (size k count user : ℕ) (same : true ≡ eqb (f .size) size) (low : 2 ≤ k) (counted : count ≡ size ^ k) (member : user < count) where
-  sizes : f .size ≡ size
-  sizes = eqb-true _ _ (sym same)
-
-  base : 0 < size
-  base = omega (arith, laws .size-low, sizes)
-
-  step : size ^ k ≡ size ^ (k - 1) * size
-  step = let last : k ≡ suc (k - 1) = omega arith in ap (λ (n : ℕ). size ^ n) last ∙ pow-suc size (k - 1)
-
-  -- how many polynomials have a top coefficient of 0
-  unit : count / size ≡ size ^ (k - 1)
-  unit = ap (λ (x : ℕ). x / size) (counted ∙ step) ∙ mul-div-cancel (size ^ (k - 1)) base
-
-  pub unit-positive : 0 < count / size
-  unit-positive = subst (λ (x : ℕ). 0 < x) (sym unit) (one-le-pow (k - 1) size base)
-
-  quotient-below : user / (count / size) < size
-  quotient-below =
-      div-below user (count / size) size unit-positive
-      (subst (λ (x : ℕ). user < x) (counted ∙ step ∙ mul-comm (size ^ (k - 1)) size ∙ ap (λ (x : ℕ). size * x) (sym unit)) member)
-
-  pub top-fits : user / (count / size) < 256
-  top-fits = omega (arith, quotient-below, laws .size-high, sizes)
-
-  pub top-answer : Some (user / (count / size)) ≡ symbolAt (extendedOf f size k) user size
-  top-answer =
-      let last : suc (k - 1) ≡ k = omega arith in
-      let q = f .size in
-      let top : user / (count / size) ≡ user / q ^ (k - 1) % q =
-      sym (mod-eq-of-lt quotient-below)
-      ∙ ap (λ (x : ℕ). user / x % size) unit
-      ∙ ap (λ (q : ℕ). user / q ^ (k - 1) % q) (sym sizes) in
-      ap Some (top ∙ sym (top-symbol f laws (k - 1) user))
-      ∙ ap₂ (λ (n i : ℕ). Some (doublyExtended f n .symbol user i)) last sizes
-      ∙ sym (symbol-in (doublyExtended f k) user size
-      (subst (λ (x : ℕ). user < x) (counted ∙ ap (λ (q : ℕ). q ^ k) (sym sizes)) member) (omega (arith, sizes)))
-      ∙ sym (ap (λ m. symbolAt m user size) (cond-true _ _ _ (sym same)))

@@ -1,4 +1,6 @@
 pub mod Meaning
 pub mod Refusals
-pub mod ReedSolomon
-pub mod Concatenations
+pub mod Polynomials
+pub mod Plain
+pub mod DoublyExtended
+pub mod Concatenation

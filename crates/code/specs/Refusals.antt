@@ -1,9 +1,11 @@
 -- What each refusal tells, and how the rows of a call's table of refusals decide.
 use mathlib.Core.Path.{_≡_}
 use mathlib.Core.Bool.{Bool, cond, _&&_}
-use mathlib.Core.List.{List, [], _∷_}
+use mathlib.Core.List.{List, [], _∷_, _++_}
 use Prim.Native.Nat.{ℕ}
+use lib.Chars.{codes}
 use lib.Dec.{leb}
+use Rattle.std.specs.Written.{decimal}
 use Rattle.std.specs.declared.option.Option.{Option}
 use Rattle.std.specs.declared.option.Option.the-variants.{Some, None}
 use Rattle.std.specs.declared.result.Result.{Result}
@@ -40,6 +42,30 @@ layerOf (InnerUsersTooFew n) = Code
 layerOf (LengthTooLong n) = Code
 layerOf (UserOutOfRange u) = Book
 layerOf LineNotUnderstood = Console
+
+-- ---- what a refusal says to a person
+
+abbrev pub layerName : Layer → List ℕ
+layerName Code = codes "code"
+layerName Book = codes "book"
+layerName Console = codes "console"
+
+-- what is wrong, in words
+abbrev pub reasonOf : Refusal → List ℕ
+reasonOf (LengthOutOfRange n) = codes "a plain code's length must be 2 to the size of its field"
+reasonOf (CoefficientsOutOfRange k) = codes "the coefficients must number 2 to 8, and no more than the positions that hold values"
+reasonOf (TooManyUsers k) = codes "with so many coefficients the code would have more than 2^32 users"
+reasonOf (InnerUsersTooFew n) = codes "the inner code must have a user for each symbol of the outer code"
+reasonOf (LengthTooLong n) = codes "a table must have at most 8192 positions"
+reasonOf (UserOutOfRange u) = codes "the code has no user of that number"
+reasonOf LineNotUnderstood = codes "the line is not understood"
+
+abbrev pub sentence : Refusal → List ℕ
+sentence r =
+    codes "refused (" ++ (decimal (numberOf r) ++ (codes ", place " ++ (decimal (placeOf r) ++ (codes ", layer "
+    ++ (layerName (layerOf r) ++ (codes "): " ++ reasonOf r))))))
+
+-- ---- how the rows of a table decide
 
 -- A row of a call's table: where the condition holds, the refusal is this, unless a row above it has told one.
 pub record Row : Type 0 where

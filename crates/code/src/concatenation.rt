@@ -1,7 +1,8 @@
 // The concatenation of any outer code with any inner code.
 ghost use mathlib.Core.Path.{_≡_};
+ghost use Prim.Native.Nat.{_/_, _%_};
 ghost use Rattle.code.specs.Refusals.{Answers};
-ghost use Rattle.code.specs.Concatenations.{concatenated, concatenatedOf, concatenationRows, fitTogether};
+ghost use Rattle.code.specs.Concatenation.{concatenated, concatenatedOf, concatenationRows, fitTogether};
 use crate::Code;
 use crate::refusal::Refusal;
 
@@ -33,6 +34,15 @@ impl<O: Code, I: Code> Concatenation<O, I> {
     {
         self.outer.alphabet() as u64 <= self.inner.users()
             && self.outer.length() * self.inner.length() <= 8192
+    }
+
+    // The block of a position, which is a position of the outer code, and the place within it, one of the inner code.
+    fn block(&self, position: usize) -> (usize, usize)
+        ensures block { λ r. ⌜ r .0 ≡ position / I·Code .meaning (now (self .entry) .inner) .length ⌝ }
+        ensures place { λ r. ⌜ r .1 ≡ position % I·Code .meaning (now (self .entry) .inner) .length ⌝ }
+    {
+        let n = self.inner.length();
+        (position / n, position % n)
     }
 }
 
@@ -77,8 +87,8 @@ pub impl<O: Code, I: Code> Code for Concatenation<O, I> as ConcatenationCode {
                 None
             };
         }
-        let n = self.inner.length();
-        let symbol = self.outer.symbol(user, position / n)?;
-        self.inner.symbol(symbol as u64, position % n)
+        let (block, place) = self.block(position);
+        let symbol = self.outer.symbol(user, block)?;
+        self.inner.symbol(symbol as u64, place)
     }
 }

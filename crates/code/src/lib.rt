@@ -6,19 +6,26 @@ ghost use Rattle.std.specs.Options.{Cases as BySome};
 ghost use Rattle.code.specs.Meaning.{CodeMeaning, CodeLaws, symbolAt, sharedPositions};
 
 mod concatenation;
-mod reed_solomon;
+mod doubly_extended;
+mod plain;
+mod polynomials;
 mod refusal;
 
 pub use concatenation::Concatenation;
 pub use concatenation::ConcatenationCode;
-pub use reed_solomon::DoublyExtended;
-pub use reed_solomon::DoublyExtendedCode;
-pub use reed_solomon::Plain;
-pub use reed_solomon::PlainCode;
+pub use doubly_extended::DoublyExtended;
+pub use doubly_extended::DoublyExtendedCode;
+pub use plain::Plain;
+pub use plain::PlainCode;
 pub use refusal::Layer;
+pub use refusal::LayerDebug;
 pub use refusal::LayerDisplay;
+pub use refusal::LayerPartialEq;
 pub use refusal::Refusal;
+pub use refusal::RefusalDebug;
 pub use refusal::RefusalDisplay;
+pub use refusal::RefusalError;
+pub use refusal::RefusalPartialEq;
 
 // A code. What an implementation means is four numbers and a table for each user, and it owes the laws of codes.
 pub trait Code {

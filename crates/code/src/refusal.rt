@@ -1,6 +1,7 @@
 // Refusals: one type for every call that can refuse.
 ghost use mathlib.Core.Path.{_≡_};
-ghost use Rattle.code.specs.Refusals.{numberOf, placeOf, layerOf};
+ghost use Rattle.std.specs.declared.option.Option.the-variants.{Some};
+ghost use Rattle.code.specs.Refusals.{numberOf, placeOf, layerOf, layerName, reasonOf, sentence};
 use std::fmt;
 
 // Which part of the office refused.
@@ -12,6 +13,8 @@ pub enum Layer {
 }
 
 pub impl fmt::Display for Layer as LayerDisplay {
+    ghost shown = { λ layer. Some (layerName layer) };
+
     fn fmt<W: fmt::Write>(&self, f: &mut fmt::Formatter<W>) -> fmt::Result {
         match self {
             Layer::Code => write!(f, "code"),
@@ -84,7 +87,9 @@ impl Refusal {
     }
 
     // What is wrong, in words.
-    fn reason(&self) -> &'static str {
+    fn reason(&self) -> &'static str
+        ensures { λ r. ⌜ now r ≡ reasonOf (now (self .entry)) ⌝ }
+    {
         match self {
             Refusal::LengthOutOfRange(_) =>
                 "a plain code's length must be 2 to the size of its field",
@@ -102,6 +107,8 @@ impl Refusal {
 }
 
 pub impl fmt::Display for Refusal as RefusalDisplay {
+    ghost shown = { λ refusal. Some (sentence refusal) };
+
     fn fmt<W: fmt::Write>(&self, f: &mut fmt::Formatter<W>) -> fmt::Result {
         let number = self.number();
         let place = self.place();
@@ -113,3 +120,5 @@ pub impl fmt::Display for Refusal as RefusalDisplay {
         )
     }
 }
+
+pub impl std::error::Error for Refusal as RefusalError {}

@@ -8,9 +8,8 @@ use native.Mathlib.Omega.{arith}
 use lib.Dec.{eqb, ltb, lit<, lit≤}
 use lib.Bits.{bitXor, xor-lt, xor-assoc, xor-comm, xor-self, xor-zero-r, xor-block}
 use lib.Pow.{pow-pos, shr-lt}
-use Rattle.std.specs.declared.option.Option.the-variants.{Some}
-use Rattle.std.proofs.shelf.Tests.{eqb-true, lt-ltb, and-from, cond-true}
-use Rattle.field.specs.Meaning.{FieldLaws, reciprocal, inverseAnswer}
+use Rattle.std.proofs.shelf.Tests.{eqb-true}
+use Rattle.field.specs.Meaning.{FieldLaws, reciprocal}
 use Rattle.field.specs.Binary.{gate, shifted, shiftedSum, product256, product16, binaryField, gf256, gf16}
 use Rattle.field.proofs.Computed.{allBelow, at-each}
 use Rattle.field.proofs.Reciprocal.{reciprocal-below, reciprocal-right, reciprocal-is}
@@ -202,10 +201,9 @@ unfolding product16
 power14-right zero h n = absurd (n refl)
 power14-right (suc a) h n = eqb-true _ 1 (at-each 16 (λ a. eqb (product16 a (power14 a)) (gate a 1)) refl (suc a) h)
 
-pub power14-answer : (a a2 a4 a8 a12 r : ℕ) → 0 < a → a < 16 → r < 16
+pub power14-inverse : (a a2 a4 a8 a12 r : ℕ) → 0 < a → a < 16 → r < 16
     → a2 ≡ product16 a a → a4 ≡ product16 a2 a2 → a8 ≡ product16 a4 a4 → a12 ≡ product16 a8 a4 → r ≡ product16 a12 a2
-    → Some r ≡ inverseAnswer gf16 a
-power14-answer a a2 a4 a8 a12 r low high closed e2 e4 e8 e12 e =
+    → r ≡ reciprocal 16 product16 a
+power14-inverse a a2 a4 a8 a12 r low high closed e2 e4 e8 e12 e =
     let same : r ≡ power14 a = cc in
-    ap Some (inverse16 a r high closed (ap (product16 a) same ∙ power14-right a high (λ z. omega arith)))
-    ∙ sym (cond-true _ _ _ (and-from _ _ (lt-ltb 0 a low) (lt-ltb a 16 high)))
+    inverse16 a r high closed (ap (product16 a) same ∙ power14-right a high (λ z. omega arith))

@@ -9,10 +9,9 @@ use native.Mathlib.Omega.{arith}
 use lib.Bits.{bitXor}
 use lib.Dec.{eqb, ltb, lit<}
 use lib.ListN.{getD}
-use Rattle.std.specs.declared.option.Option.the-variants.{Some}
-use Rattle.std.proofs.shelf.Tests.{eqb-true, ltb-true, lt-ltb, and-parts, and-from, cond-true}
-use Rattle.field.specs.Meaning.{reciprocal, inverseAnswer}
-use Rattle.field.specs.Binary.{gate, shifted, shiftedSum, product256, gf256}
+use Rattle.std.proofs.shelf.Tests.{eqb-true, ltb-true, and-parts}
+use Rattle.field.specs.Meaning.{reciprocal}
+use Rattle.field.specs.Binary.{gate, shifted, shiftedSum, product256}
 use Rattle.field.specs.Tables.{powerOfTwo, PowerTable, LogarithmTable, InverseTable}
 use Rattle.field.proofs.Computed.{allBelow, at-each}
 use Rattle.field.proofs.Additive.{shifted-additive, right-additive, at-zero}
@@ -128,8 +127,5 @@ product-zero a = at-zero (shiftedSum 7 0x11D 8 a) (right-additive 7 0x11D 8 a)
 pub zero-product : (a : ℕ) → a < 256 → product256 0 a ≡ 0
 zero-product a h = gf256-laws .product-comm 0 a (lit< tt) h ∙ product-zero a
 
-pub inverse-entry : (table : List ℕ) → InverseTable table → (a x : ℕ) → x ≡ getD table a 0 → a < 256 → ¬ (a ≡ 0) → Some x ≡ inverseAnswer gf256 a
-inverse-entry table rule a x e h n =
-    let answered : inverseAnswer gf256 a ≡ Some (reciprocal 256 product256 a) =
-    cond-true _ _ _ (and-from _ _ (lt-ltb 0 a (omega arith)) (lt-ltb a 256 h)) in
-    ap Some (e ∙ inverse256 a (getD table a 0) h (rule .closed a h) (rule .right a h n)) ∙ sym answered
+pub inverse-entry : (table : List ℕ) → InverseTable table → (a : ℕ) → 0 < a → a < 256 → getD table a 0 ≡ reciprocal 256 product256 a
+inverse-entry table rule a low high = inverse256 a (getD table a 0) high (rule .closed a high) (rule .right a high (λ z. omega arith))

@@ -6,9 +6,8 @@ use native.Mathlib.Nat.{mod-lt, div-add-mod', add-mul, mul-add-mod-self-right, m
 use native.Mathlib.Omega.{arith}
 use lib.Dec.{eqb, lit<, lit≤}
 use lib.Pow.{pow-add}
-use Rattle.std.specs.declared.option.Option.the-variants.{Some}
-use Rattle.std.proofs.shelf.Tests.{eqb-true, lt-ltb, and-from, cond-true}
-use Rattle.field.specs.Meaning.{FieldLaws, reciprocal, inverseAnswer}
+use Rattle.std.proofs.shelf.Tests.{eqb-true}
+use Rattle.field.specs.Meaning.{FieldLaws, reciprocal}
 use Rattle.field.specs.Modular.{timesModulo, modulo251}
 use Rattle.field.specs.Binary.{gate}
 use Rattle.field.proofs.Computed.{allBelow, at-each}
@@ -73,8 +72,3 @@ modulo251-laws = record {
 
 pub power-one : (a : ℕ) → a < 251 → a ≡ a ^ 1 % 251
 power-one a h = sym (ap (λ (x : ℕ). x % 251) (pow-suc a 0 ∙ ap (λ (x : ℕ). x * a) (pow-zero a) ∙ one-mul a) ∙ mod-eq-of-lt h)
-
-pub inverse-answer : (a r : ℕ) → 0 < a → a < 251 → r ≡ a ^ 249 % 251 → Some r ≡ inverseAnswer modulo251 a
-inverse-answer a r low high e =
-    ap Some (e ∙ power-inverse a high (λ z. omega arith))
-    ∙ sym (cond-true _ _ _ (and-from _ _ (lt-ltb 0 a low) (lt-ltb a 251 high)))

@@ -1,6 +1,7 @@
 // The fields of 256 and of 16 elements: polynomials over two elements, a number's bits being the coefficients.
 ghost use mathlib.Core.Path.{_≡_};
 ghost use Prim.Native.Nat.{_<_};
+ghost use Rattle.field.specs.Meaning.{reciprocal};
 ghost use Rattle.field.specs.Binary.{gf256, gf16, shifted, product256, product16};
 use crate::Field;
 use crate::tables::inverses;
@@ -23,6 +24,14 @@ fn times_256(a: u8, b: u8) -> u8
     powers()[sum % 255]
 }
 
+// The inverse of an element other than 0, by the table.
+fn inverse_256(a: u8) -> u8
+    requires { ⌜ 0 < a ⌝ }
+    ensures { λ r. ⌜ r ≡ reciprocal 256 product256 a ⌝ }
+{
+    inverses()[a as usize]
+}
+
 pub impl Field for Gf256 as Gf256Field {
     ghost meaning = { λ _. gf256 };
 
@@ -43,11 +52,7 @@ pub impl Field for Gf256 as Gf256Field {
     }
 
     fn inverse(&self, a: u8) -> Option<u8> {
-        if a == 0 {
-            None
-        } else {
-            Some(inverses()[a as usize])
-        }
+        if a == 0 { None } else { Some(inverse_256(a)) }
     }
 }
 
@@ -83,6 +88,18 @@ fn times_16(a: u8, b: u8) -> u8
     sum
 }
 
+// The inverse of an element other than 0: its 14th power, since the 15th is 1.
+fn inverse_16(a: u8) -> u8
+    requires { ⌜ 0 < a ⌝ ∗ ⌜ a < 16 ⌝ }
+    ensures { λ r. ⌜ r ≡ reciprocal 16 product16 a ⌝ }
+{
+    let a2 = times_16(a, a);
+    let a4 = times_16(a2, a2);
+    let a8 = times_16(a4, a4);
+    let a12 = times_16(a8, a4);
+    times_16(a12, a2)
+}
+
 pub impl Field for Gf16 as Gf16Field {
     ghost meaning = { λ _. gf16 };
 
@@ -106,14 +123,9 @@ pub impl Field for Gf16 as Gf16Field {
         if a < 16 { Some(a) } else { None }
     }
 
-    // The 14th power, since the 15th is 1.
     fn inverse(&self, a: u8) -> Option<u8> {
         if 0 < a && a < 16 {
-            let a2 = times_16(a, a);
-            let a4 = times_16(a2, a2);
-            let a8 = times_16(a4, a4);
-            let a12 = times_16(a8, a4);
-            Some(times_16(a12, a2))
+            Some(inverse_16(a))
         } else {
             None
         }

@@ -1,7 +1,8 @@
 // The integers modulo 251.
 ghost use mathlib.Core.Path.{_≡_};
 ghost use Prim.Native.Nat.{_*_, _%_, _^_, _<_};
-ghost use Rattle.field.specs.Modular.{modulo251};
+ghost use Rattle.field.specs.Meaning.{reciprocal};
+ghost use Rattle.field.specs.Modular.{modulo251, timesModulo};
 use crate::Field;
 
 #[derive(Clone, Copy)]
@@ -14,7 +15,7 @@ fn times(a: u8, b: u8) -> u8
     ((a as u16 * b as u16) % 251) as u8
 }
 
-// The 249th power, which is the inverse of an element other than 0, since the 250th is 1.
+// The 249th power.
 fn power_249(a: u8) -> u8
     requires { ⌜ a < 251 ⌝ }
     ensures { λ r. ⌜ r ≡ a ^ 249 % 251 ⌝ }
@@ -30,6 +31,14 @@ fn power_249(a: u8) -> u8
     let a124 = times(a62, a62);
     let a248 = times(a124, a124);
     times(a248, a)
+}
+
+// The inverse of an element other than 0: its 249th power, since the 250th is 1.
+fn inverse_251(a: u8) -> u8
+    requires { ⌜ 0 < a ⌝ ∗ ⌜ a < 251 ⌝ }
+    ensures { λ r. ⌜ r ≡ reciprocal 251 timesModulo a ⌝ }
+{
+    power_249(a)
 }
 
 pub impl Field for Mod251 as Mod251Field {
@@ -61,7 +70,7 @@ pub impl Field for Mod251 as Mod251Field {
 
     fn inverse(&self, a: u8) -> Option<u8> {
         if 0 < a && a < 251 {
-            Some(power_249(a))
+            Some(inverse_251(a))
         } else {
             None
         }
