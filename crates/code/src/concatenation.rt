@@ -4,6 +4,7 @@ ghost use Prim.Native.Nat.{_/_, _%_};
 ghost use Rattle.code.specs.Refusals.{Answers};
 ghost use Rattle.code.specs.Concatenation.{concatenated, concatenatedOf, concatenationRows, fitTogether};
 use crate::Code;
+use crate::lone::lone_symbol;
 use crate::refusal::Refusal;
 
 #[derive(Drop)]
@@ -81,11 +82,7 @@ pub impl<O: Code, I: Code> Code for Concatenation<O, I> as ConcatenationCode {
 
     fn symbol(&self, user: u64, position: usize) -> Option<u8> {
         if !self.fits() {
-            return if user < 1 && position < 1 {
-                Some(0)
-            } else {
-                None
-            };
+            return lone_symbol(user, position);
         }
         let (block, place) = self.block(position);
         let symbol = self.outer.symbol(user, block)?;

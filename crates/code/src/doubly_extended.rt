@@ -4,6 +4,7 @@ ghost use Prim.Native.Nat.{_≤_};
 ghost use Rattle.code.specs.Refusals.{Answers};
 ghost use Rattle.code.specs.DoublyExtended.{doublyExtended, extendedOf, extendedRows};
 use crate::Code;
+use crate::lone::lone_symbol;
 use crate::polynomials::Polynomials;
 use crate::refusal::Refusal;
 use field::Field;
@@ -63,11 +64,7 @@ pub impl<F: Field> Code for DoublyExtended<F> as DoublyExtendedCode {
     fn symbol(&self, user: u64, position: usize) -> Option<u8> {
         let p = &self.polynomials;
         if !p.sound() {
-            return if user < 1 && position < 1 {
-                Some(0)
-            } else {
-                None
-            };
+            return lone_symbol(user, position);
         }
         let size = p.size as usize;
         if user >= p.count || position > size {

@@ -7,6 +7,7 @@ ghost use Rattle.code.specs.Meaning.{CodeMeaning, CodeLaws, symbolAt, sharedPo
 
 mod concatenation;
 mod doubly_extended;
+mod lone;
 mod plain;
 mod polynomials;
 mod refusal;

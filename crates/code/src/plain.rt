@@ -4,6 +4,7 @@ ghost use Prim.Native.Nat.{_≤_};
 ghost use Rattle.code.specs.Refusals.{Answers};
 ghost use Rattle.code.specs.Plain.{plain, plainOf, plainRows};
 use crate::Code;
+use crate::lone::lone_symbol;
 use crate::polynomials::Polynomials;
 use crate::refusal::Refusal;
 use field::Field;
@@ -70,11 +71,7 @@ pub impl<F: Field> Code for Plain<F> as PlainCode {
     fn symbol(&self, user: u64, position: usize) -> Option<u8> {
         let p = &self.polynomials;
         if !p.sound() {
-            return if user < 1 && position < 1 {
-                Some(0)
-            } else {
-                None
-            };
+            return lone_symbol(user, position);
         }
         if user >= p.count || position >= self.length {
             return None;

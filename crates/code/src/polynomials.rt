@@ -67,7 +67,7 @@ fn value_at<F: Field>(field: &F, size: u64, k: usize, number: u64, x: u8) -> Opt
 
 impl<F: Field + Drop> Polynomials<F> {
     // The polynomials of so many coefficients, of which there may be at most 8 and at most `most`.
-    pub fn new(field: F, coefficients: usize, most: usize) -> Result<Polynomials<F>, Refusal>
+    pub(crate) fn new(field: F, coefficients: usize, most: usize) -> Result<Polynomials<F>, Refusal>
         ensures { λ r. ⌜ Answers r (coefficientRows (F·Field .meaning field .size) most coefficients) (λ p. (p .field ≡ field) × (p .size ≡ F·Field .meaning field .size) × (p .coefficients ≡ coefficients)) ⌝ }
     {
         if coefficients < 2 || coefficients > 8 || coefficients > most {
@@ -88,14 +88,14 @@ impl<F: Field + Drop> Polynomials<F> {
 
 impl<F: Field> Polynomials<F> {
     // Whether the field has the size that it had when this was made.
-    pub fn sound(&self) -> bool
+    pub(crate) fn sound(&self) -> bool
         ensures { λ r. ⌜ r ≡ eqb (F·Field .meaning (now (self .entry) .field) .size) (now (self .entry) .size) ⌝ }
     {
         self.field.size() == self.size
     }
 
     // The value of a user's polynomial at an element.
-    pub fn value(&self, user: u64, x: u8) -> Option<u8>
+    pub(crate) fn value(&self, user: u64, x: u8) -> Option<u8>
         requires sound { ⌜ true ≡ eqb (F·Field .meaning (now self .field) .size) (now self .size) ⌝ }
         requires element { ⌜ x < now self .size ⌝ }
         ensures { λ r. ⌜ r ≡ Some (valueAt (F·Field .meaning (now (self .entry) .field)) (digits (F·Field .meaning (now (self .entry) .field) .size) (now (self .entry) .coefficients) user) x) ⌝ }
@@ -104,7 +104,7 @@ impl<F: Field> Polynomials<F> {
     }
 
     // The top coefficient of a user's polynomial.
-    pub fn top(&self, user: u64) -> u8
+    pub(crate) fn top(&self, user: u64) -> u8
         requires sound { ⌜ true ≡ eqb (F·Field .meaning (now self .field) .size) (now self .size) ⌝ }
         requires member { ⌜ user < now self .count ⌝ }
         ensures { λ r. ⌜ r ≡ getD (digits (F·Field .meaning (now (self .entry) .field) .size) (now (self .entry) .coefficients) user) (now (self .entry) .coefficients - 1) 0 ⌝ }

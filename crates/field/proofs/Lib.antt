@@ -3,7 +3,7 @@ pub mod Reciprocal
 pub mod ModularLaws
 pub mod Additive
 pub mod BinaryLaws
-pub mod Logarithms
+pub mod TableRules
 pub mod Abstract
 pub mod Roots
 pub mod Numbers

@@ -4,9 +4,9 @@ ghost use Prim.Native.Nat.{_<_};
 ghost use Rattle.field.specs.Meaning.{reciprocal};
 ghost use Rattle.field.specs.Binary.{gf256, gf16, shifted, product256, product16};
 use crate::Field;
-use crate::tables::inverses;
-use crate::tables::logarithms;
-use crate::tables::powers;
+use crate::inverses::inverses;
+use crate::logarithms::logarithms;
+use crate::powers::powers;
 
 // The polynomials modulo 0x11D.
 #[derive(Clone, Copy)]

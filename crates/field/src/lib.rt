@@ -3,8 +3,10 @@ ghost use mathlib.Core.Path.{_≡_};
 ghost use Rattle.field.specs.Meaning.{FieldMeaning, FieldLaws, answer, pairAnswer, inverseAnswer};
 
 mod binary;
+mod inverses;
+mod logarithms;
 mod modular;
-mod tables;
+mod powers;
 
 pub use binary::Gf16;
 pub use binary::Gf16Field;

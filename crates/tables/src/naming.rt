@@ -15,7 +15,7 @@ pub enum NamedField {
     Gf16,
 }
 
-pub fn field_named(name: &str) -> Option<NamedField> {
+pub(crate) fn field_named(name: &str) -> Option<NamedField> {
     match name {
         "mod251" => Some(NamedField::Mod251),
         "gf256" => Some(NamedField::Gf256),

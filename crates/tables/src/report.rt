@@ -183,7 +183,7 @@ fn answer(rt: &LibcRuntime, line: &str) -> Result<(), Stop> {
 }
 
 // Prints what a line asks for, or why it is refused.
-pub fn answer_line(rt: &LibcRuntime, line: &str) -> io::Result<()> {
+pub(crate) fn answer_line(rt: &LibcRuntime, line: &str) -> io::Result<()> {
     match answer(rt, line) {
         Ok(()) => Ok(()),
         Err(Stop::Refused(refusal)) => println!(rt, "{refusal}"),

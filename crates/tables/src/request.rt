@@ -79,7 +79,7 @@ fn code_name(words: &mut SplitWhitespace) -> Option<CodeName> {
 }
 
 // What a line asks for; None where it has no meaning.
-pub fn read_request(heap: Global, line: &str) -> Result<Option<Request>, AllocError> {
+pub(crate) fn read_request(heap: Global, line: &str) -> Result<Option<Request>, AllocError> {
     let mut words = line.split_whitespace();
     let Some(code) = code_name(&mut words) else {
         return Ok(None);

@@ -1,5 +1,5 @@
 use native.Mathlib.Omega.{arith}
-use Rattle.field.proofs.Logarithms.{inverse-entry}
+use Rattle.field.proofs.TableRules.{inverse-entry}
 use Rattle.field.proofs.binary.inverse_256.Needs as need
 
 pub returns : need.returns

@@ -3,7 +3,7 @@ use mathlib.Core.Logic.{⊎-elim}
 use Prim.Native.Nat.{ℕ}
 use native.Mathlib.Omega.{arith}
 use Rattle.field.specs.Binary.{product256}
-use Rattle.field.proofs.Logarithms.{by-logarithms, product-zero, zero-product}
+use Rattle.field.proofs.TableRules.{by-logarithms, product-zero, zero-product}
 use Rattle.field.proofs.binary.times_256.Needs as need
 
 pub returns-then-a-eq0 : need.returns-then-a-eq0

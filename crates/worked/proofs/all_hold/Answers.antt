@@ -1,8 +1,8 @@
 use mathlib.Core.Path.{refl}
 use Rattle.field.specs.Meaning.{reciprocal}
 use Rattle.field.specs.Binary.{product16, product256}
-use Rattle.worked.proofs.worked_values_hold.Needs as need
+use Rattle.worked.proofs.all_hold.Needs as need
 
 pub returns : need.returns
 unfolding reciprocal product16 product256
-returns c = record { number = refl; hold = refl }
+returns c = refl
