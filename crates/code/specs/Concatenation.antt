@@ -4,8 +4,8 @@ use mathlib.Core.List.{List, [], _∷_}
 use Prim.Native.Nat.{ℕ, _+_, _*_, _/_, _%_, min}
 use lib.Dec.{leb, ltb}
 use Rattle.code.specs.Meaning.{CodeMeaning, lone}
-use Rattle.code.specs.Refusals.{Row, row}
-use Rattle.code.specs.declared.refusal.Refusal.the-variants.{InnerUsersTooFew, LengthTooLong}
+use Rattle.refusal.specs.Refusals.{Row, row}
+use Rattle.refusal.specs.declared.Refusal.the-variants.{InnerUsersTooFew, LengthTooLong}
 
 -- positions agree in the blocks of equal outer symbols, and in each other block in at most the inner overlap
 abbrev pub concatenatedOverlap : CodeMeaning → CodeMeaning → ℕ

@@ -1,11 +1,11 @@
 // The concatenation of any outer code with any inner code.
 ghost use mathlib.Core.Path.{_≡_};
 ghost use Prim.Native.Nat.{_/_, _%_};
-ghost use Rattle.code.specs.Refusals.{Answers};
+ghost use Rattle.refusal.specs.Refusals.{Answers};
 ghost use Rattle.code.specs.Concatenation.{concatenated, concatenatedOf, concatenationRows, fitTogether};
 use crate::Code;
 use crate::lone::lone_symbol;
-use crate::refusal::Refusal;
+use refusal::Refusal;
 
 #[derive(Drop)]
 pub struct Concatenation<O: Code, I: Code> {

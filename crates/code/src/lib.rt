@@ -1,4 +1,4 @@
-// Codes that give each user a table of key numbers: an interface with a meaning and laws, and three kinds of code that have them.
+// Codes, which give each user a table of key numbers: an interface with a meaning and laws, and the concatenation of any two codes.
 ghost use mathlib.Core.Path.{_≡_};
 ghost use Prim.Native.Nat.{_<_, _≤_};
 ghost use lib.Dec.{eqb};
@@ -6,27 +6,11 @@ ghost use Rattle.std.specs.Options.{Cases as BySome};
 ghost use Rattle.code.specs.Meaning.{CodeMeaning, CodeLaws, symbolAt, sharedPositions};
 
 mod concatenation;
-mod doubly_extended;
 mod lone;
-mod plain;
-mod polynomials;
-mod refusal;
 
 pub use concatenation::Concatenation;
 pub use concatenation::ConcatenationCode;
-pub use doubly_extended::DoublyExtended;
-pub use doubly_extended::DoublyExtendedCode;
-pub use plain::Plain;
-pub use plain::PlainCode;
-pub use refusal::Layer;
-pub use refusal::LayerDebug;
-pub use refusal::LayerDisplay;
-pub use refusal::LayerPartialEq;
-pub use refusal::Refusal;
-pub use refusal::RefusalDebug;
-pub use refusal::RefusalDisplay;
-pub use refusal::RefusalError;
-pub use refusal::RefusalPartialEq;
+pub use lone::lone_symbol;
 
 // A code. What an implementation means is four numbers and a table for each user, and it owes the laws of codes.
 pub trait Code {

@@ -7,8 +7,8 @@ use lib.Dec.{eqb}
 use Rattle.field.specs.Modular.{modulo251}
 use Rattle.field.specs.Binary.{gf16, gf256}
 use Rattle.code.specs.Meaning.{CodeMeaning}
-use Rattle.code.specs.Plain.{plain}
-use Rattle.code.specs.DoublyExtended.{doublyExtended}
+use Rattle.reed_solomon.specs.Plain.{plain}
+use Rattle.reed_solomon.specs.DoublyExtended.{doublyExtended}
 use Rattle.code.specs.Concatenation.{concatenated}
 
 abbrev pub allHold : List Bool → Bool
