@@ -16,7 +16,7 @@ use Rattle.field.specs.Meaning.{FieldMeaning, FieldLaws, pairAnswer}
 use Rattle.field.specs.Polynomial.{valueAt}
 use Rattle.field.proofs.Questions.{pair-answered, pair-some, pair-never-none}
 use Rattle.field.proofs.Numbers.{Below, value-below}
-use Rattle.reed_solomon.specs.Polynomials.{digits}
+use Rattle.reed_solomon.specs.Polynomials.{digits, hasSize}
 use Rattle.reed_solomon.proofs.Digits.{digits-below, top-digit}
 
 -- ---- powers
@@ -68,7 +68,7 @@ module _ (f : FieldMeaning) (laws : FieldLaws f) (size : ℕ) (sized : size ≡ 
 
 -- ---- the top coefficient
 
-module _ (f : FieldMeaning) (laws : FieldLaws f) (size k count user : ℕ) (same : true ≡ eqb (f .size) size) (low : 2 ≤ k) (counted : count ≡ size ^ k) (member : user < count) where
+module _ (f : FieldMeaning) (laws : FieldLaws f) (size k count user : ℕ) (same : true ≡ hasSize f size) (low : 2 ≤ k) (counted : count ≡ size ^ k) (member : user < count) where
   sizes : f .size ≡ size
   sizes = eqb-true _ _ (sym same)
 

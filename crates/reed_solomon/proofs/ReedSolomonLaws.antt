@@ -15,7 +15,7 @@ use Rattle.field.specs.Meaning.{FieldMeaning, FieldLaws}
 use Rattle.field.specs.Polynomial.{valueAt, agreements}
 use Rattle.field.proofs.Numbers.{Below, value-below, few-agreements, values-under-top}
 use Rattle.code.specs.Meaning.{CodeMeaning, CodeLaws, lone}
-use Rattle.reed_solomon.specs.Polynomials.{digits}
+use Rattle.reed_solomon.specs.Polynomials.{digits, hasSize}
 use Rattle.reed_solomon.specs.Plain.{plain, plainOf}
 use Rattle.reed_solomon.specs.DoublyExtended.{doublyExtended, extendedOf}
 use Rattle.code.proofs.Counting.{agreements-same, agreements-more}
@@ -50,7 +50,7 @@ module _ (f : FieldMeaning) (laws : FieldLaws f) where
 
   pub plainOf-laws : (size n k : ℕ) → 2 ≤ k → k ≤ n → n ≤ size → size ^ k ≤ 2 ^ 32 → CodeLaws (plainOf f size n k)
   plainOf-laws size n k low high within count =
-      cond-both (eqb (f .size) size) (plain f n k) lone CodeLaws
+      cond-both (hasSize f size) (plain f n k) lone CodeLaws
       (λ e. let same = eqb-true _ _ e in
       plain-laws n k low high (omega arith) (subst (λ (q : ℕ). q ^ k ≤ 2 ^ 32) (sym same) count))
       (λ _. lone-laws)
@@ -142,7 +142,7 @@ module _ (f : FieldMeaning) (laws : FieldLaws f) where
 
   pub extendedOf-laws : (size k : ℕ) → 2 ≤ k → k ≤ size → size ^ k ≤ 2 ^ 32 → CodeLaws (extendedOf f size k)
   extendedOf-laws size k low high count =
-      cond-both (eqb (f .size) size) (doublyExtended f k) lone CodeLaws
+      cond-both (hasSize f size) (doublyExtended f k) lone CodeLaws
       (λ e. let same = eqb-true _ _ e in
       extended-laws k low (omega arith) (subst (λ (q : ℕ). q ^ k ≤ 2 ^ 32) (sym same) count))
       (λ _. lone-laws)

@@ -2,13 +2,13 @@
 use mathlib.Core.Bool.{cond}
 use mathlib.Core.List.{List}
 use Prim.Native.Nat.{ℕ, _+_, _-_, _^_}
-use lib.Dec.{eqb, ltb}
+use lib.Dec.{ltb}
 use lib.ListN.{getD}
 use Rattle.field.specs.Meaning.{FieldMeaning}
 use Rattle.field.specs.Polynomial.{valueAt}
 use Rattle.code.specs.Meaning.{CodeMeaning, lone}
 use Rattle.refusal.specs.Refusals.{Row}
-use Rattle.reed_solomon.specs.Polynomials.{digits, coefficientRows}
+use Rattle.reed_solomon.specs.Polynomials.{digits, coefficientRows, hasSize}
 
 -- k coefficients
 abbrev pub doublyExtended : FieldMeaning → ℕ → CodeMeaning
@@ -23,6 +23,6 @@ doublyExtended f k = record {
 abbrev pub extendedRows : ℕ → ℕ → List Row
 extendedRows q k = coefficientRows q q k
 
--- what a value in memory stands for, which keeps the size that its field had when it was made
+-- what a value in memory stands for
 abbrev pub extendedOf : FieldMeaning → ℕ → ℕ → CodeMeaning
-extendedOf f size k = cond (eqb (f .size) size) (doublyExtended f k) lone
+extendedOf f size k = cond (hasSize f size) (doublyExtended f k) lone

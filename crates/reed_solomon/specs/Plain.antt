@@ -2,12 +2,11 @@
 use mathlib.Core.Bool.{not, cond}
 use mathlib.Core.List.{List, _∷_}
 use Prim.Native.Nat.{ℕ, _-_, _^_}
-use lib.Dec.{eqb}
 use Rattle.field.specs.Meaning.{FieldMeaning}
 use Rattle.field.specs.Polynomial.{valueAt}
 use Rattle.code.specs.Meaning.{CodeMeaning, lone}
 use Rattle.refusal.specs.Refusals.{Row, row, within}
-use Rattle.reed_solomon.specs.Polynomials.{digits, coefficientRows}
+use Rattle.reed_solomon.specs.Polynomials.{digits, coefficientRows, hasSize}
 use Rattle.refusal.specs.declared.Refusal.the-variants.{LengthOutOfRange}
 
 -- n positions, k coefficients
@@ -23,6 +22,6 @@ plain f n k = record {
 abbrev pub plainRows : ℕ → ℕ → ℕ → List Row
 plainRows q n k = row (not (within 2 n q)) (LengthOutOfRange n) ∷ coefficientRows q n k
 
--- what a value in memory stands for, which keeps the size that its field had when it was made
+-- what a value in memory stands for
 abbrev pub plainOf : FieldMeaning → ℕ → ℕ → ℕ → CodeMeaning
-plainOf f size n k = cond (eqb (f .size) size) (plain f n k) lone
+plainOf f size n k = cond (hasSize f size) (plain f n k) lone

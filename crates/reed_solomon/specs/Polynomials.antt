@@ -1,8 +1,9 @@
 -- Users as polynomials, and what is refused of their number of coefficients.
-use mathlib.Core.Bool.{not}
+use mathlib.Core.Bool.{Bool, not}
 use mathlib.Core.List.{List, [], _∷_}
 use Prim.Native.Nat.{ℕ, zero, suc, _/_, _%_, _^_, min}
-use lib.Dec.{ltb}
+use lib.Dec.{eqb, ltb}
+use Rattle.field.specs.Meaning.{FieldMeaning}
 use Rattle.refusal.specs.Refusals.{Row, row, within}
 use Rattle.refusal.specs.declared.Refusal.the-variants.{CoefficientsOutOfRange, TooManyUsers}
 
@@ -17,3 +18,7 @@ coefficientRows q most k =
     row (not (within 2 k (min 8 most))) (CoefficientsOutOfRange k)
     ∷ row (ltb (2 ^ 32) (q ^ k)) (TooManyUsers k)
     ∷ []
+
+-- whether a field has the size that it had when a code over it was made
+abbrev pub hasSize : FieldMeaning → ℕ → Bool
+hasSize f size = eqb (f .size) size

@@ -30,35 +30,23 @@ pub impl<F: Field> Code for DoublyExtended<F> as DoublyExtendedCode {
     ghost meaning = { λ c. extendedOf (F·Field .meaning (c .polynomials .field)) (c .polynomials .size) (c .polynomials .coefficients) };
 
     fn users(&self) -> u64 {
-        if self.polynomials.sound() {
-            self.polynomials.count
-        } else {
-            1
-        }
+        self.polynomials.users()
     }
 
     fn length(&self) -> usize {
         if self.polynomials.sound() {
-            self.polynomials.size as usize + 1
+            1 + self.polynomials.size as usize
         } else {
             1
         }
     }
 
     fn alphabet(&self) -> u16 {
-        if self.polynomials.sound() {
-            self.polynomials.size
-        } else {
-            2
-        }
+        self.polynomials.alphabet()
     }
 
     fn overlap(&self) -> usize {
-        if self.polynomials.sound() {
-            self.polynomials.coefficients - 1
-        } else {
-            0
-        }
+        self.polynomials.overlap()
     }
 
     fn symbol(&self, user: u64, position: usize) -> Option<u8> {

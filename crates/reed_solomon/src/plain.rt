@@ -37,11 +37,7 @@ pub impl<F: Field> Code for Plain<F> as PlainCode {
     ghost meaning = { λ c. plainOf (F·Field .meaning (c .polynomials .field)) (c .polynomials .size) (c .length) (c .polynomials .coefficients) };
 
     fn users(&self) -> u64 {
-        if self.polynomials.sound() {
-            self.polynomials.count
-        } else {
-            1
-        }
+        self.polynomials.users()
     }
 
     fn length(&self) -> usize {
@@ -53,19 +49,11 @@ pub impl<F: Field> Code for Plain<F> as PlainCode {
     }
 
     fn alphabet(&self) -> u16 {
-        if self.polynomials.sound() {
-            self.polynomials.size
-        } else {
-            2
-        }
+        self.polynomials.alphabet()
     }
 
     fn overlap(&self) -> usize {
-        if self.polynomials.sound() {
-            self.polynomials.coefficients - 1
-        } else {
-            0
-        }
+        self.polynomials.overlap()
     }
 
     fn symbol(&self, user: u64, position: usize) -> Option<u8> {

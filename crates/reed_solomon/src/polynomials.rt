@@ -2,12 +2,12 @@
 ghost use mathlib.Core.Path.{_≡_};
 ghost use mathlib.Core.Bool.{true, cond};
 ghost use Prim.Native.Nat.{_-_, _/_, _%_, _^_, _<_, _≤_};
-ghost use lib.Dec.{leb, eqb};
+ghost use lib.Dec.{leb};
 ghost use lib.ListN.{getD};
 ghost use Rattle.std.specs.declared.option.Option.the-variants.{Some, None};
 ghost use Rattle.field.specs.Polynomial.{valueAt};
 ghost use Rattle.refusal.specs.Refusals.{Answers};
-ghost use Rattle.reed_solomon.specs.Polynomials.{digits, coefficientRows};
+ghost use Rattle.reed_solomon.specs.Polynomials.{digits, coefficientRows, hasSize};
 use field::Field;
 use refusal::Refusal;
 
@@ -89,14 +89,39 @@ impl<F: Field + Drop> Polynomials<F> {
 impl<F: Field> Polynomials<F> {
     // Whether the field has the size that it had when this was made.
     pub(crate) fn sound(&self) -> bool
-        ensures { λ r. ⌜ r ≡ eqb (F·Field .meaning (now (self .entry) .field) .size) (now (self .entry) .size) ⌝ }
+        ensures { λ r. ⌜ r ≡ hasSize (F·Field .meaning (now (self .entry) .field)) (now (self .entry) .size) ⌝ }
     {
         self.field.size() == self.size
     }
 
+    // The users of a code of these polynomials.
+    pub(crate) fn users(&self) -> u64
+        ensures { λ r. ⌜ r ≡ cond (hasSize (F·Field .meaning (now (self .entry) .field)) (now (self .entry) .size)) (F·Field .meaning (now (self .entry) .field) .size ^ now (self .entry) .coefficients) 1 ⌝ }
+    {
+        if self.sound() { self.count } else { 1 }
+    }
+
+    // Its key numbers, which are the elements.
+    pub(crate) fn alphabet(&self) -> u16
+        ensures { λ r. ⌜ r ≡ cond (hasSize (F·Field .meaning (now (self .entry) .field)) (now (self .entry) .size)) (F·Field .meaning (now (self .entry) .field) .size) 2 ⌝ }
+    {
+        if self.sound() { self.size } else { 2 }
+    }
+
+    // At how many points two different polynomials agree at most.
+    pub(crate) fn overlap(&self) -> usize
+        ensures { λ r. ⌜ r ≡ cond (hasSize (F·Field .meaning (now (self .entry) .field)) (now (self .entry) .size)) (now (self .entry) .coefficients - 1) 0 ⌝ }
+    {
+        if self.sound() {
+            self.coefficients - 1
+        } else {
+            0
+        }
+    }
+
     // The value of a user's polynomial at an element.
     pub(crate) fn value(&self, user: u64, x: u8) -> Option<u8>
-        requires sound { ⌜ true ≡ eqb (F·Field .meaning (now self .field) .size) (now self .size) ⌝ }
+        requires sound { ⌜ true ≡ hasSize (F·Field .meaning (now self .field)) (now self .size) ⌝ }
         requires element { ⌜ x < now self .size ⌝ }
         ensures { λ r. ⌜ r ≡ Some (valueAt (F·Field .meaning (now (self .entry) .field)) (digits (F·Field .meaning (now (self .entry) .field) .size) (now (self .entry) .coefficients) user) x) ⌝ }
     {
@@ -105,7 +130,7 @@ impl<F: Field> Polynomials<F> {
 
     // The top coefficient of a user's polynomial.
     pub(crate) fn top(&self, user: u64) -> u8
-        requires sound { ⌜ true ≡ eqb (F·Field .meaning (now self .field) .size) (now self .size) ⌝ }
+        requires sound { ⌜ true ≡ hasSize (F·Field .meaning (now self .field)) (now self .size) ⌝ }
         requires member { ⌜ user < now self .count ⌝ }
         ensures { λ r. ⌜ r ≡ getD (digits (F·Field .meaning (now (self .entry) .field) .size) (now (self .entry) .coefficients) user) (now (self .entry) .coefficients - 1) 0 ⌝ }
     {
