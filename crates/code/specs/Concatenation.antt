@@ -7,7 +7,7 @@ use Rattle.code.specs.Meaning.{CodeMeaning, lone}
 use Rattle.refusal.specs.Refusals.{Row, row}
 use Rattle.refusal.specs.declared.Refusal.the-variants.{InnerUsersTooFew, LengthTooLong}
 
--- positions agree in the blocks of equal outer symbols, and in each other block in at most the inner overlap
+-- A bound: a block of equal outer symbols may agree whole, and the inner overlap is counted for every block, for those too; never more than all positions.
 abbrev pub concatenatedOverlap : CodeMeaning → CodeMeaning → ℕ
 concatenatedOverlap o i = min (o .overlap * i .length + o .length * i .overlap) (o .length * i .length)
 
