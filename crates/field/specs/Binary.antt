@@ -1,5 +1,5 @@
 -- Polynomials over two elements, a number's bits being the coefficients, and the two fields of such polynomials.
-use Rattle.std.specs.Prelude.{ℕ, zero, suc, ◌*◌, ◌/◌, ◌%◌, ◌^◌, bit-xor}
+use Rattle.std.specs.Prelude.{ℕ, zero, suc, ◌*◌, ◌/◌, ◌%◌, ◌^◌, bit_xor}
 use Rattle.field.specs.Meaning.{FieldMeaning, reciprocal}
 
 -- x where the bit is 1, and 0 where it is 0
@@ -11,12 +11,12 @@ gate (suc bit) x = x
 module _ (top modulus : ℕ) where
   -- a·x: every coefficient moves up by one, and the modulus is taken away where one has reached its degree
   abbrev pub shifted : ℕ → ℕ
-  shifted a = bit-xor (gate (a / 2 ^ top % 2) modulus) (a * 2)
+  shifted a = bit_xor (gate (a / 2 ^ top % 2) modulus) (a * 2)
 
   -- the sum of a·x^i over the coefficients i < k of b that are 1
   abbrev pub shifted_sum : ℕ → ℕ → ℕ → ℕ
   shifted_sum zero a b = 0
-  shifted_sum (suc k) a b = bit-xor (gate (b % 2) a) (shifted_sum k (shifted a) (b / 2))
+  shifted_sum (suc k) a b = bit_xor (gate (b % 2) a) (shifted_sum k (shifted a) (b / 2))
 
 -- the product modulo 0x11D = x^8 + x^4 + x^3 + x^2 + 1
 unfoldable pub product256 : ℕ → ℕ → ℕ
@@ -29,7 +29,7 @@ product16 = shifted_sum 3 0x13 4
 abbrev pub binary_field : ℕ → (ℕ → ℕ → ℕ) → FieldMeaning
 binary_field size product = record {
   size = size;
-  sum = bitXor;
+  sum = bit_xor;
   product = product;
   negative = λ a. a;
   inverse = reciprocal size product;
