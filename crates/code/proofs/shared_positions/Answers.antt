@@ -2,20 +2,20 @@ use Rattle.std.proofs.Common.{◌≡◌, ℕ, ◌+◌, ◌<◌, ◌≤◌, Bool,
 use Rattle.code.specs.Counting.{agreements_next}
 use Rattle.code.specs.Symbols.{shared_counted, shared_few}
 use Rattle.code.proofs.shared_positions.Goals as goal
-use Rattle.code.proofs.shared_positions.Goals.{then-agree-at, else-agree-at}
+use Rattle.code.proofs.shared_positions.Goals.{then-agree_at, else-agree_at}
 
 pub loop-position-preserved : goal.loop-position-preserved
 loop-position-preserved g c =
     let m = g.C.Code.meaning c.args.code.now in
     let l = c.loop-position in
-    elim c.if-agree-at.branch [
-      | then-agree-at w ↦ (
+    elim c.if-agree_at.branch [
+      | then-agree_at w ↦ (
         omega (arith, w.count-is),
-        agreements_next (m.symbol c.args.u) (m.symbol c.args.v) l.position l.count _ true l.invariant.1 w.if-agree-at.ensures w.count-is,
+        agreements_next (m.symbol c.args.u) (m.symbol c.args.v) l.position l.count _ true l.invariant.1 w.if-agree_at.ensures w.count-is,
       )
-      | else-agree-at w ↦ (
+      | else-agree_at w ↦ (
         omega (arith, w.count-is),
-        agreements_next (m.symbol c.args.u) (m.symbol c.args.v) l.position l.count _ false l.invariant.1 w.if-agree-at.ensures (w.count-is ∙ omega arith),
+        agreements_next (m.symbol c.args.u) (m.symbol c.args.v) l.position l.count _ false l.invariant.1 w.if-agree_at.ensures (w.count-is ∙ omega arith),
       )
     ]
 

@@ -10,8 +10,8 @@ loop-i-preserved g c =
     let f = c.args.coefficients.now in
     let l = c.loop-i in
     let point : l.i < m.size = omega (arith, c.if-word-size.false, c.size.ensures, c.loop-i-test.true) in
-    let value : c.in-ok-value-at.field-0 ≡ value_at m f l.i =
-    value_some m f l.i point c.if-not-elements-only-2.ensures _ c.in-ok-value-at.ensures in
+    let value : c.in-ok-value_at.field-0 ≡ value_at m f l.i =
+    value_some m f l.i point c.if-not-elements_only-2.ensures _ c.in-ok-value_at.ensures in
     elim c.if-branch-word.branch [
       | then-branch-word w ↦ (
         omega (arith, w.count-is),
@@ -30,8 +30,8 @@ returns g c =
     let f = c.args.coefficients.now in
     let short : length word ≤ m.size = omega (arith, c.if-word-size.false, c.size.ensures) in
     record {
-      answer = agreement_answered m f word short c.if-not-elements-only.ensures c.if-not-elements-only-2.ensures c.loop-i.count
+      answer = agreement_answered m f word short c.if-not-elements_only.ensures c.if-not-elements_only-2.ensures c.loop-i.count
           (count_all m f word c.loop-i.i c.loop-i.count c.loop-i.invariant.1 c.loop-i-test.false);
-      forces-root = agreement_forces m f word short c.if-not-elements-only.ensures c.if-not-elements-only-2.ensures
+      forces_root = agreement_forces m f word short c.if-not-elements_only.ensures c.if-not-elements_only-2.ensures
           (g.met.F.Field.lawful c.args.field.now);
     }

@@ -5,4 +5,4 @@ use Rattle.bivariate.proofs.terms.coefficient_at.Given as goal
 -- the powers passed are all before the end
 abbrev pub invariant-loop-power : goal.invariant-loop-power
 invariant-loop-power l =
-    (l.start ≡ first_terms l.a l.d l.-power) × (l.width + l.a * l.-power ≡ l.d) × (l.start ≤ length l.coefficients)
+    (l.start ≡ first_terms l.a l.d l._power) × (l.width + l.a * l._power ≡ l.d) × (l.start ≤ length l.coefficients)

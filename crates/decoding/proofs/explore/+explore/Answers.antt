@@ -6,14 +6,14 @@ use Rattle.decoding.proofs.Branches.{standing_none, standing_by, standing_same, 
 use Rattle.decoding.proofs.explore.+explore.Goals as goal
 use Rattle.decoding.proofs.explore.+explore.Goals.{then-begins+in-ok-total, else-begins}
 
-pub split-at-mut-next-requires : goal.split-at-mut-next-requires
-split-at-mut-next-requires g t c = next_fits c.args.left (c.args.d * c.args.w) _ c.requires.some c.if-left-eq1.false c.requires.room
+pub split_at_mut-next-requires : goal.split_at_mut-next-requires
+split_at_mut-next-requires g t c = next_fits c.args.left (c.args.d * c.args.w) _ c.requires.some c.if-left-eq1.false c.requires.room
 
 pub loop-c-init : goal.loop-c-init
 loop-c-init g t c = (
   omega arith,
-  c.split-at-mut-next.ensures.front-len,
-  deeper_fits c.args.left (c.args.d * c.args.w) _ _ c.requires.some c.if-left-eq1.false c.requires.room c.split-at-mut-next.ensures.back_len,
+  c.split_at_mut-next.ensures.front-len,
+  deeper_fits c.args.left (c.args.d * c.args.w) _ _ c.requires.some c.if-left-eq1.false c.requires.room c.split_at_mut-next.ensures.back_len,
   standing_none _ _ c.args.left c.requires.some c.args.path.now c.args.found.now c.requires.fits c.args.count c.requires.counted,
 )
 
@@ -79,19 +79,19 @@ returns-in-err-total g t c =
     record {
       same_length = found_length_below m laws Q Q' c.args.left c.loop-c.c c.advance.ensures.roots path found deep c.requires.fits c.args.count
           c.requires.counted c.loop-c.total c.loop-c.path c.loop-c.found element state c.explore.new.path c.explore.new.found
-          told.same-path.0 told.same-path.1 told.same_length;
-      same-path = (
+          told.same_path.0 told.same_path.1 told.same_length;
+      same_path = (
         path_length_below m laws Q Q' c.args.left c.loop-c.c c.advance.ensures.roots path found deep c.requires.fits c.args.count
             c.requires.counted c.loop-c.total c.loop-c.path c.loop-c.found element state c.explore.new.path c.explore.new.found
-            told.same-path.0 told.same-path.1 told.same_length,
+            told.same_path.0 told.same_path.1 told.same_length,
         path_below m laws Q Q' c.args.left c.loop-c.c c.advance.ensures.roots path found deep c.requires.fits c.args.count
             c.requires.counted c.loop-c.total c.loop-c.path c.loop-c.found element state c.explore.new.path c.explore.new.found
-            told.same-path.0 told.same-path.1 told.same_length,
+            told.same_path.0 told.same_path.1 told.same_length,
       );
       told = subst (Told m Q c.args.left (length path) (take (length path - c.args.left) path) c.args.count found c.explore.new.found) (sym c.from-residual.ensures)
           (branch_over m laws Q Q' c.args.left c.loop-c.c c.advance.ensures.roots path found deep c.requires.fits c.args.count
           c.requires.counted c.loop-c.total c.loop-c.path c.loop-c.found element state c.explore.new.path c.explore.new.found
-          told.same-path.0 told.same-path.1 told.same_length c.in-err-total.ensures.told);
+          told.same_path.0 told.same_path.1 told.same_length c.in-err-total.ensures.told);
     }
 
 pub loop-c-preserved : goal.loop-c-preserved
@@ -112,7 +112,7 @@ loop-c-preserved g t c =
             standing_by m Q c.args.left path found c.args.count _ _ _ _ _ _ _ w.total-is w.path-is w.found-is
             (branch_more m laws Q (grid c.args.w c.args.d w.advance.new.next) c.args.left c.loop-c.c w.advance.ensures.roots path found deep c.requires.fits
             c.args.count c.requires.counted c.loop-c.total c.loop-c.path c.loop-c.found element state w.explore.new.path w.explore.new.found
-            w.explore.ensures.same-path.0 w.explore.ensures.same-path.1 w.explore.ensures.same_length _ w.in-ok-total.ensures.told)
+            w.explore.ensures.same_path.0 w.explore.ensures.same_path.1 w.explore.ensures.same_length _ w.in-ok-total.ensures.told)
         | else-begins w ↦
             standing_by m Q c.args.left path found c.args.count _ _ _ _ _ _ _ w.total-is w.path-is w.found-is
             (standing_same m Q c.args.left c.requires.some path found c.requires.fits c.args.count c.requires.counted c.loop-c.c c.loop-c.total c.loop-c.path c.loop-c.found

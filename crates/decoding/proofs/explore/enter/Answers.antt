@@ -11,11 +11,11 @@ returns c =
     let f = c.args.f.now in
     let n = c.args.count in
     record {
-      same_length = entered_length found f n c.requires.counted c.requires.some c.if-found-start.false _ c.copy-from-slice.ensures.after;
+      same_length = entered_length found f n c.requires.counted c.requires.some c.if-found-start.false _ c.copy_from_slice.ensures.after;
       entered = (
         add-one n,
         entered_within found f n c.requires.counted c.requires.some c.if-found-start.false,
-        entered_front found f n c.requires.counted c.requires.some c.if-found-start.false _ c.copy-from-slice.ensures.after,
-        entered_beyond found f n c.requires.counted c.requires.some c.if-found-start.false _ c.copy-from-slice.ensures.after,
+        entered_front found f n c.requires.counted c.requires.some c.if-found-start.false _ c.copy_from_slice.ensures.after,
+        entered_beyond found f n c.requires.counted c.requires.some c.if-found-start.false _ c.copy_from_slice.ensures.after,
       );
     }

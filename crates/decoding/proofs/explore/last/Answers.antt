@@ -19,7 +19,7 @@ returns-in-err-total g c =
     let element : c.loop-c.c < m.size = omega (arith, c.loop-c-test.true, c.size-size.ensures) in
     record {
       same_length = c.enter.ensures.same_length ∙ state.found_length;
-      same-path = (
+      same_path = (
         length-set c.loop-c.path _ c.loop-c.c ∙ state.path_length,
         last_path m Q path found c.requires.some c.args.count c.requires.counted c.loop-c.c c.loop-c.total c.loop-c.path c.loop-c.found element state,
       );

@@ -28,19 +28,19 @@ returns-in-Some g c =
     let cs = c.args.coefficients.now in
     let found = c.args.found.now in
     let ok = accepted m a d cs (length found) (length c.args.memory.now) c.in-ok-check.ensures.0 in
-    let bytes = c.found-bytes-room.ensures in
+    let bytes = c.found_bytes-room.ensures in
     let room = subst (λ (n : ℕ). n ≤ length found) (sym bytes) ok.room in
     let same = c.run.ensures.same_length ∙ front_length _ found room in
     record {
       answer = (
         c.in-ok-check.ensures.0,
         (
-          roots_found m laws a d cs found c.run.new.found c.found-bytes-room.result bytes room same c.run.ensures.few c.in-Some.count c.in-Some.ensures.told,
-          beyond m laws a d cs found c.run.new.found c.found-bytes-room.result bytes room same c.run.ensures.few c.in-Some.count c.in-Some.ensures.told,
+          roots_found m laws a d cs found c.run.new.found c.found_bytes-room.result bytes room same c.run.ensures.few c.in-Some.count c.in-Some.ensures.told,
+          beyond m laws a d cs found c.run.new.found c.found_bytes-room.result bytes room same c.run.ensures.few c.in-Some.count c.in-Some.ensures.told,
         ),
       );
       refused = λ e. absurd (false≢true e);
-      lengths = (written_length c.found-bytes-room.result found c.run.new.found same room, c.run.auto.memory);
+      lengths = (written_length c.found_bytes-room.result found c.run.new.found same room, c.run.auto.memory);
     }
 
 pub returns-in-None : goal.returns-in-None
@@ -52,7 +52,7 @@ returns-in-None g c =
     let cs = c.args.coefficients.now in
     let found = c.args.found.now in
     let ok = accepted m a d cs (length found) (length c.args.memory.now) c.in-ok-check.ensures.0 in
-    let bytes = c.found-bytes-room.ensures in
+    let bytes = c.found_bytes-room.ensures in
     let room = subst (λ (n : ℕ). n ≤ length found) (sym bytes) ok.room in
     let same = c.run.ensures.same_length ∙ front_length _ found room in
-    absurd (never_full m laws a d cs found c.run.new.found c.found-bytes-room.result bytes room same c.run.ensures.few c.in-None.ensures.told)
+    absurd (never_full m laws a d cs found c.run.new.found c.found_bytes-room.result bytes room same c.run.ensures.few c.in-None.ensures.told)

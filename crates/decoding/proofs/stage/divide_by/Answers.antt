@@ -2,15 +2,15 @@ use Rattle.std.proofs.Common.{arith}
 use Rattle.decoding.proofs.Grids.{next_row, divided, lowest}
 use Rattle.decoding.proofs.stage.divide_by.Goals as goal
 
-pub rotate-left-requires : goal.rotate-left-requires
-rotate-left-requires c = omega (arith, next_row c.args.r c.args.d c.args.w c.requires.low, c.requires.sized)
+pub rotate_left-requires : goal.rotate_left-requires
+rotate_left-requires c = omega (arith, next_row c.args.r c.args.d c.args.w c.requires.low, c.requires.sized)
 
 pub returns : goal.returns
 returns c =
-    let after = c.rotate-left.new.self in
-    let turned = c.rotate-left.ensures.by_index in
+    let after = c.rotate_left.new.self in
+    let turned = c.rotate_left.ensures.by_index in
     record {
-      same_length = c.rotate-left.ensures.len;
+      same_length = c.rotate_left.ensures.len;
       divided = divided c.args.w c.args.d c.args.r c.args.stage.now after c.requires.sized c.requires.low c.requires.divides turned.0 turned.1;
       lowest = lowest c.args.w c.args.d c.args.r c.args.stage.now after c.requires.sized c.requires.low c.requires.divides turned.0 turned.1;
     }

@@ -5,8 +5,8 @@ use Rattle.decoding.proofs.stage.shift.Goals as goal
 pub loop-i-init : goal.loop-i-init
 loop-i-init g c = (omega arith, shift_none (g.F.Field.meaning c.args.field.now) c.args.c c.args.p.now)
 
-pub times-linear-requires : goal.times-linear-requires
-times-linear-requires g c =
+pub times_linear-requires : goal.times_linear-requires
+times_linear-requires g c =
     let laws = g.met.F.Field.lawful c.args.field.now in
     record {
       some = rest_some _ c.args.c laws c.requires.by c.args.p.now c.loop-i.p c.loop-i.i c.requires.elements
@@ -21,5 +21,5 @@ loop-i-preserved g c =
     let laws = g.met.F.Field.lawful c.args.field.now in (
       omega (arith, c.loop-i.invariant.0),
       shift_more _ c.args.c laws c.requires.by c.args.p.now c.loop-i.p c.loop-i.i c.requires.elements
-          c.loop-i-test.true c.loop-i.invariant.0 c.loop-i.invariant.1 _ c.times-linear.ensures.after,
+          c.loop-i-test.true c.loop-i.invariant.0 c.loop-i.invariant.1 _ c.times_linear.ensures.after,
     )

@@ -2,8 +2,8 @@ use Rattle.std.proofs.Common.{arith}
 use Rattle.decoding.proofs.Shifts.{linear_reads, linear-all}
 use Rattle.decoding.proofs.stage.times_linear.Goals as goal
 
-pub plus-product-requires : goal.plus-product-requires
-plus-product-requires g c =
+pub plus_product-requires : goal.plus_product-requires
+plus_product-requires g c =
     let m = g.F.Field.meaning c.args.field.now in
     let i = c.loop-i.i in
     record {

@@ -8,8 +8,8 @@ returns-in-err-enough g c =
     let m = g.F.Field.meaning c.args.field.now in
     let laws = g.met.F.Field.lawful c.args.field.now in
     let ok = accepted m c.args.a c.args.word.now (length c.args.found.now) (length c.args.memory.now) c.in-ok-check.ensures.0 in
-    absurd (never_both _ _ (interpolates_on m laws c.args.a c.args.word.now _ _ ok _ _ c.split-at-mut-coefficients.ensures.front-len
-    c.split-at-mut-vectors.ensures.front-len) c.in-err-enough.ensures.answer)
+    absurd (never_both _ _ (interpolates_on m laws c.args.a c.args.word.now _ _ ok _ _ c.split_at_mut-coefficients.ensures.front-len
+    c.split_at_mut-vectors.ensures.front-len) c.in-err-enough.ensures.answer)
 
 pub returns-in-err-count : goal.returns-in-err-count
 returns-in-err-count g c =
@@ -18,8 +18,8 @@ returns-in-err-count g c =
     let ok = accepted m c.args.a c.args.word.now (length c.args.found.now) (length c.args.memory.now) c.in-ok-check.ensures.0 in
     let made = c.in-ok-enough.ensures.answer.1 in
     absurd (never_both _ _ (finds_on m laws c.args.a c.args.word.now _ _ ok c.in-ok-enough.enough c.interpolate.new.coefficients made.0
-    (c.interpolate.ensures.lengths.0 ∙ c.split-at-mut-coefficients.ensures.front-len) made.1 _
-    (parts_fit m laws c.args.a c.args.word.now _ _ ok _ _ c.split-at-mut-coefficients.ensures.back_len c.split-at-mut-vectors.ensures.back_len))
+    (c.interpolate.ensures.lengths.0 ∙ c.split_at_mut-coefficients.ensures.front-len) made.1 _
+    (parts_fit m laws c.args.a c.args.word.now _ _ ok _ _ c.split_at_mut-coefficients.ensures.back_len c.split_at_mut-vectors.ensures.back_len))
     c.in-err-count.ensures.answer)
 
 pub returns : goal.returns
@@ -35,10 +35,10 @@ returns g c =
         (
           made.0,
           decoded m laws c.args.a c.args.word.now _ _ ok c.in-ok-enough.enough c.interpolate.new.coefficients made.0
-              (c.interpolate.ensures.lengths.0 ∙ c.split-at-mut-coefficients.ensures.front-len) made.1 _ found.0,
+              (c.interpolate.ensures.lengths.0 ∙ c.split_at_mut-coefficients.ensures.front-len) made.1 _ found.0,
           found.1,
         ),
       );
       refused = λ e. absurd (false≢true e);
-      lengths = (c.find-roots.ensures.lengths.0, search rules);
+      lengths = (c.find_roots.ensures.lengths.0, search rules);
     }

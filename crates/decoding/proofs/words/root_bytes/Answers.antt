@@ -7,8 +7,8 @@ overflow-add-result c = record {
   fits = omega (
     arith,
     bytes_small c.args.a c.bound-d.result (omega (arith, c.if-a-gt255.false)) (omega (arith, c.bound-d.ensures.high, c.if-n-gt256.false)),
-    c.found-bytes.ensures,
-    c.memory-bytes.ensures,
+    c.found_bytes.ensures,
+    c.memory_bytes.ensures,
   );
 }
 
@@ -17,8 +17,8 @@ returns c =
     let weight : 1 ≤ c.args.a = omega (arith, c.if-a-lt1.false) in
     let few : c.args.n ≤ 256 = omega (arith, c.if-n-gt256.false) in
     record {
-      answer = bytes_answered c.args.a c.args.n weight c.bound-d.result c.found-bytes.result c.memory-bytes.result (omega (arith, c.if-a-gt255.false)) few
-          c.bound-d.ensures.is c.found-bytes.ensures c.memory-bytes.ensures;
-      few = bytes_bounded c.args.a c.args.n weight c.bound-d.result c.found-bytes.result c.memory-bytes.result few
-          c.bound-d.ensures.is c.found-bytes.ensures c.memory-bytes.ensures;
+      answer = bytes_answered c.args.a c.args.n weight c.bound-d.result c.found_bytes.result c.memory_bytes.result (omega (arith, c.if-a-gt255.false)) few
+          c.bound-d.ensures.is c.found_bytes.ensures c.memory_bytes.ensures;
+      few = bytes_bounded c.args.a c.args.n weight c.bound-d.result c.found_bytes.result c.memory_bytes.result few
+          c.bound-d.ensures.is c.found_bytes.ensures c.memory_bytes.ensures;
     }

@@ -9,8 +9,8 @@ pub loop-step-init : goal.loop-step-init
 unfolding product16
 loop-step-init c = (c.requires.0, lit< tt, refl)
 
-pub shift-16-term-requires : goal.shift-16-term-requires
-shift-16-term-requires c = c.loop-step.invariant.0
+pub shift_16-term-requires : goal.shift_16-term-requires
+shift_16-term-requires c = c.loop-step.invariant.0
 
 pub loop-step-preserved : goal.loop-step-preserved
 loop-step-preserved c =
@@ -25,15 +25,15 @@ loop-step-preserved c =
       | then-rest-eq1 w ↦ rw w.sum-is (xor_lt 4 l.sum l.term l.invariant.1 l.invariant.0)
       | else-rest-eq1 w ↦ omega (arith, w.sum-is)
     ] in (
-      c.shift-16-term.ensures.closed,
+      c.shift_16-term.ensures.closed,
       closed,
-      sum_step l.-step l.sum l.term l.rest _ _ _ c.loop-step-test.true c.shift-16-term.ensures.value added l.invariant.2,
+      sum_step l._step l.sum l.term l.rest _ _ _ c.loop-step-test.true c.shift_16-term.ensures.value added l.invariant.2,
     )
 
 pub returns : goal.returns
 returns c =
     let l = c.loop-step in
-    let done : 0 ≡ 4 - l.-step = omega (arith, c.loop-step-test.false) in
+    let done : 0 ≡ 4 - l._step = omega (arith, c.loop-step-test.false) in
     record {
       closed = l.invariant.1;
       value = sym (xor_zero_r l.sum) ∙ ap (λ (k : ℕ). bit_xor l.sum (shifted_sum 3 0x13 k l.term l.rest)) done ∙ l.invariant.2;

@@ -23,7 +23,7 @@ loop-place-preserved g c =
       | then-left-eq0 w ↦
           written_next _ laws _ _ _ _ c.requires.place c.requires.value c.requires.weight c.requires.degree
           _ room _ _ _ _ _ c.loop-place.invariant (omega arith) _ _ _ _ _ _ w.if-left-eq0.true
-          w.times-first.ensures w.saturating-sub-width.ensures w.value-is w.first-is w.width-is w.left-is
+          w.times-first.ensures w.saturating_sub-width.ensures w.value-is w.first-is w.width-is w.left-is
       | else-left-eq0 w ↦
           written_within _ laws _ _ _ _ c.requires.place c.requires.value c.requires.weight c.requires.degree
           _ room _ _ _ _ _ c.loop-place.invariant (omega arith) _ _ _ _ _ w.if-left-eq0.false

@@ -9,9 +9,9 @@ impose-requires g c =
       staircase = c.requires.staircase;
       few = c.requires.few;
       equation = equation_elements m laws c.args.a c.args.d _ c.requires.weight c.requires.degree c.requires.room c.args.x c.args.y
-          c.requires.place c.requires.value _ c.write-equation.ensures;
+          c.requires.place c.requires.value _ c.write_equation.ensures;
       width = equation_length m laws c.args.a c.args.d _ c.requires.weight c.requires.degree c.requires.room c.args.x c.args.y
-          c.requires.place c.requires.value _ c.write-equation.ensures;
+          c.requires.place c.requires.value _ c.write_equation.ensures;
     }
 
 pub returns : goal.returns
@@ -23,5 +23,5 @@ returns g c =
       through = λ points.
           through_more m laws c.args.a c.args.d _ c.requires.weight c.requires.degree c.requires.room c.args.vectors.now c.impose.new.vectors
           c.requires.staircase imposed.staircase imposed.keeps points c.args.x c.args.y _ c.requires.place c.requires.value
-          c.write-equation.ensures imposed.solves imposed.alive;
+          c.write_equation.ensures imposed.solves imposed.alive;
     }

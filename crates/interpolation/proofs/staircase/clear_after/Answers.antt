@@ -27,8 +27,8 @@ pub bounds-vectors-t : goal.bounds-vectors-t
 bounds-vectors-t g c =
     place_below c.args.w c.loop-t.vectors (c.loop-t.auto.vectors ∙ c.requires.sized) c.loop-t.t c.loop-t.t c.loop-t-test.true c.loop-t-test.true
 
-pub clear-vector-requires : goal.clear-vector-requires
-clear-vector-requires g c =
+pub clear_vector-requires : goal.clear_vector-requires
+clear_vector-requires g c =
     let m = g.F.Field.meaning c.args.field.now in
     let laws = g.met.F.Field.lawful c.args.field.now in
     record {
@@ -54,7 +54,7 @@ loop-t-preserved g c =
           (clearing_alive m c.args.w c.args.p c.args.equation.now c.args.vectors.now l.t c.loop-t-test.true behind l.vectors l.invariant
           x.if-vectors-t-ne0.true c.reciprocal-inverse.result
           (inverse_is m c.args.equation.now _ c.vector.result.now c.dot-value.result c.vector.ensures c.dot-value.ensures c.reciprocal-inverse.result c.reciprocal-inverse.ensures)
-          x.clear-vector.new.vectors x.clear-vector.ensures.changed x.clear-vector.ensures.others)
+          x.clear_vector.new.vectors x.clear_vector.ensures.changed x.clear_vector.ensures.others)
       | else-vectors-t-ne0 x ↦ subst (Clearing m c.args.w c.args.p c.args.equation.now c.args.vectors.now (l.t + 1)) (sym x.vectors-is)
           (clearing_dead m c.args.w c.args.p c.args.equation.now c.args.vectors.now l.t c.loop-t-test.true behind l.vectors l.invariant
           x.if-vectors-t-ne0.false)

@@ -13,8 +13,8 @@ dot-value-requires g c =
       sized = c.requires.width ∙ sym (part_length c.args.w c.args.vectors.now c.requires.sized c.args.t _ c.vector.ensures c.requires.places.0);
     }
 
-pub negative-product-c-requires : goal.negative-product-c-requires
-negative-product-c-requires g c =
+pub negative_product-c-requires : goal.negative_product-c-requires
+negative_product-c-requires g c =
     let m = g.F.Field.meaning c.args.field.now in
     record {
       first = value-element m (g.met.F.Field.lawful c.args.field.now) c.args.equation.now c.vector.result.now _ c.dot-value.ensures c.requires.equation
@@ -22,15 +22,15 @@ negative-product-c-requires g c =
       second = c.requires.inverse;
     }
 
-pub add-multiple-requires : goal.add-multiple-requires
-add-multiple-requires g c =
+pub add_multiple-requires : goal.add_multiple-requires
+add_multiple-requires g c =
     let m = g.F.Field.meaning c.args.field.now in
     let laws = g.met.F.Field.lawful c.args.field.now in
     record {
       sized = c.requires.sized;
       few = c.requires.few;
       elements = c.requires.elements;
-      factor = negative-element m laws c.dot-value.result c.args.inverse c.negative-product-c.result c.negative-product-c.ensures
+      factor = negative-element m laws c.dot-value.result c.args.inverse c.negative_product-c.result c.negative_product-c.ensures
           (value-element m laws c.args.equation.now c.vector.result.now _ c.dot-value.ensures c.requires.equation
           (part_elements c.args.w c.args.vectors.now c.requires.sized m c.args.t _ c.vector.ensures c.requires.elements))
           c.requires.inverse;

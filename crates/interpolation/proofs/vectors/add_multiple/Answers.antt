@@ -11,8 +11,8 @@ pub bounds-vectors-from : goal.bounds-vectors-from
 bounds-vectors-from g c =
     place_below c.args.w c.loop-i.vectors (c.loop-i.auto.vectors ∙ c.requires.sized) c.args.p c.loop-i.i (omega arith) c.loop-i-test.true
 
-pub plus-product-requires : goal.plus-product-requires
-plus-product-requires g c =
+pub plus_product-requires : goal.plus_product-requires
+plus_product-requires g c =
     record {
       first = to_element (g.F.Field.meaning c.args.field.now) c.args.w c.args.c c.args.t c.args.p c.args.vectors.now c.loop-i.vectors
           c.requires.sized c.loop-i.auto.vectors c.requires.places.0 c.requires.places.1 c.loop-i.i c.loop-i-test.true c.loop-i.invariant c.requires.elements;
@@ -28,7 +28,7 @@ bounds-vectors-to-in-loop-i g c =
 pub loop-i-preserved : goal.loop-i-preserved
 loop-i-preserved g c =
     adding_more (g.F.Field.meaning c.args.field.now) c.args.w c.args.c c.args.t c.args.p c.args.vectors.now c.loop-i.vectors
-    c.requires.sized c.loop-i.auto.vectors c.requires.places.0 c.requires.places.1 c.loop-i.i c.loop-i-test.true c.loop-i.invariant _ c.plus-product.ensures
+    c.requires.sized c.loop-i.auto.vectors c.requires.places.0 c.requires.places.1 c.loop-i.i c.loop-i-test.true c.loop-i.invariant _ c.plus_product.ensures
 
 pub returns : goal.returns
 returns g c =

@@ -5,8 +5,8 @@ use Rattle.interpolation.specs.Staircase.{dot}
 use Rattle.interpolation.proofs.VectorSums.{dot_step, part_element}
 use Rattle.interpolation.proofs.vectors.dot.Goals as goal
 
-pub plus-product-sum-requires : goal.plus-product-sum-requires
-plus-product-sum-requires g c =
+pub plus_product-sum-requires : goal.plus_product-sum-requires
+plus_product-sum-requires g c =
     let m = g.F.Field.meaning c.args.field.now in
     let i : ℕ = c.loop-i.i in
     record {
@@ -23,7 +23,7 @@ loop-i-init g c =
 pub loop-i-preserved : goal.loop-i-preserved
 loop-i-preserved g c =
     dot_step (g.F.Field.meaning c.args.field.now) (g.met.F.Field.lawful c.args.field.now) c.args.equation.now c.args.v.now
-    c.loop-i.i c.loop-i.sum _ c.requires.equation c.requires.vector c.requires.sized c.loop-i-test.true c.loop-i.auto.i c.loop-i.invariant c.plus-product-sum.ensures
+    c.loop-i.i c.loop-i.sum _ c.requires.equation c.requires.vector c.requires.sized c.loop-i-test.true c.loop-i.auto.i c.loop-i.invariant c.plus_product-sum.ensures
 
 pub returns : goal.returns
 returns g c =

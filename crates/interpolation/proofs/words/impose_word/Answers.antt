@@ -7,8 +7,8 @@ use Rattle.interpolation.specs.Through.{Through}
 use Rattle.interpolation.proofs.WordPoints.{word_more}
 use Rattle.interpolation.proofs.words.impose_word.Goals as goal
 
-pub impose-point-requires : goal.impose-point-requires
-impose-point-requires g c =
+pub impose_point-requires : goal.impose_point-requires
+impose_point-requires g c =
     let m = g.F.Field.meaning c.args.field.now in
     record {
       place = omega arith;
@@ -23,8 +23,8 @@ impose-point-requires g c =
 pub loop-i-preserved : goal.loop-i-preserved
 loop-i-preserved g c =
     word_more (g.F.Field.meaning c.args.field.now) c.args.a c.args.d (length c.loop-i.equation) (length c.args.equation.now)
-    c.loop-i.auto.equation c.args.word.now c.requires.elements c.requires.places c.loop-i.vectors c.impose-point.new.vectors
-    c.loop-i.i c.loop-i-test.true c.impose-point.ensures.through c.loop-i.invariant
+    c.loop-i.auto.equation c.args.word.now c.requires.elements c.requires.places c.loop-i.vectors c.impose_point.new.vectors
+    c.loop-i.i c.loop-i-test.true c.impose_point.ensures.through c.loop-i.invariant
 
 pub returns : goal.returns
 returns g c =

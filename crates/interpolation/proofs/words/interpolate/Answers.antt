@@ -18,8 +18,8 @@ solve-requires g c =
       elements = ok.elements;
       places = ok.places;
       weight = ok.weight;
-      degree = bound_low a n _ c.degree-bound.result ok.weight c.degree-bound.ensures.answer c.unwrap-or-d.ensures;
-      terms = bound_terms a n _ c.degree-bound.result ok.weight c.degree-bound.ensures.answer c.unwrap-or-d.ensures;
+      degree = bound_low a n _ c.degree_bound.result ok.weight c.degree_bound.ensures.answer c.unwrap_or-d.ensures;
+      terms = bound_terms a n _ c.degree_bound.result ok.weight c.degree_bound.ensures.answer c.unwrap_or-d.ensures;
       room = front_length (n + 1) c.args.coefficients.now ok.room;
       memory = square_length (n + 1) c.args.coefficients.now c.args.memory.now ok.room ok.memory;
     }
@@ -28,7 +28,7 @@ pub returns : goal.returns
 returns g c =
     let m = g.F.Field.meaning c.args.field.now in
     let a : ℕ = c.args.a in
-    let d : ℕ = c.unwrap-or-d.result in
+    let d : ℕ = c.unwrap_or-d.result in
     let n : ℕ = length c.args.word.now in
     let points = points_from 0 c.args.word.now in
     let out : List ℕ = c.solve.new.out in
@@ -40,7 +40,7 @@ returns g c =
       answer = (
         c.in-ok-check.ensures.0,
         (
-          bound_is a n _ c.degree-bound.result ok.weight c.degree-bound.ensures.answer c.unwrap-or-d.ensures,
+          bound_is a n _ c.degree_bound.result ok.weight c.degree_bound.ensures.answer c.unwrap_or-d.ensures,
           subst (λ (cs : List ℕ). Interpolates m a d points (polynomial a d cs)) (sym (take_at out _ (n + 1) long)) c.solve.ensures,
         ),
       );

@@ -5,10 +5,10 @@ use Rattle.reed_solomon.proofs.polynomials.+value_at.Goals as goal
 pub returns-in-err-product : goal.returns-in-err-product
 returns-in-err-product g t c =
     absurd (product_there _ (g.met.F.Field.lawful c.args.field.now) _ c.requires.sized c.args.k c.args.number _ _ _ c.if-k-eq0.false c.requires.element
-    c.lowest-digit-digit.ensures.rest (sym c.in-ok-value.was ∙ c.value-at.ensures) (sym c.in-err-product.was ∙ c.product.ensures))
+    c.lowest_digit-digit.ensures.rest (sym c.in-ok-value.was ∙ c.value_at.ensures) (sym c.in-err-product.was ∙ c.product.ensures))
 
 pub returns : goal.returns
 returns g t c =
     value_step _ (g.met.F.Field.lawful c.args.field.now) _ c.requires.sized c.args.k c.args.number _ _ _ c.if-k-eq0.false c.requires.element
-    c.lowest-digit-digit.ensures.rest (sym c.in-ok-value.was ∙ c.value-at.ensures) _ _ _ c.lowest-digit-digit.ensures.digit
+    c.lowest_digit-digit.ensures.rest (sym c.in-ok-value.was ∙ c.value_at.ensures) _ _ _ c.lowest_digit-digit.ensures.digit
     (sym c.in-ok-product.was ∙ c.product.ensures) c.sum.ensures

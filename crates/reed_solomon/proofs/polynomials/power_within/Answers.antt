@@ -8,8 +8,8 @@ loop-i-init c = (sym (pow-zero c.args.base), lit≤ tt)
 
 pub returns-then-power-gt4294967296 : goal.returns-then-power-gt4294967296
 returns-then-power-gt4294967296 c =
-    power_passed c.args.base c.loop-i.-i _ c.loop-i.power (omega arith) c.loop-i-test.true c.loop-i.invariant.0
+    power_passed c.args.base c.loop-i._i _ c.loop-i.power (omega arith) c.loop-i-test.true c.loop-i.invariant.0
     c.if-power-gt4294967296.true
 
 pub loop-i-preserved : goal.loop-i-preserved
-loop-i-preserved c = (power_more c.args.base c.loop-i.-i c.loop-i.power c.loop-i.invariant.0, c.if-power-gt4294967296.false)
+loop-i-preserved c = (power_more c.args.base c.loop-i._i c.loop-i.power c.loop-i.invariant.0, c.if-power-gt4294967296.false)
