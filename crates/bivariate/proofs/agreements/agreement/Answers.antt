@@ -10,8 +10,8 @@ loop-i-preserved g c =
     let f = c.args.coefficients.now in
     let l = c.loop-i in
     let point : l.i < m.size = omega (arith, c.if-word-size.false, c.size.ensures, c.loop-i-test.true) in
-    let value : c.in-ok-value_at.field-0 ≡ value_at m f l.i =
-    value_some m f l.i point c.if-not-elements_only-2.ensures _ c.in-ok-value_at.ensures in
+    let value : c.in_ok-value_at.field-0 ≡ value_at m f l.i =
+    value_some m f l.i point c.if-not-elements_only-2.ensures _ c.in_ok-value_at.ensures in
     elim c.if-branch-word.branch [
       | then-branch-word w ↦ (
         omega (arith, w.count-is),

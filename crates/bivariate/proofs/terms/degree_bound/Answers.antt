@@ -2,16 +2,16 @@ use Rattle.std.proofs.Common.{arith}
 use Rattle.bivariate.proofs.Degrees.{passed_high, turn_high, counted_high, count_more, passed_more, passed_least, passed_is}
 use Rattle.bivariate.proofs.terms.degree_bound.Goals as goal
 
-pub overflow-add-count : goal.overflow-add-count
-overflow-add-count c =
+pub overflow_add-count : goal.overflow_add-count
+overflow_add-count c =
     omega (arith, counted_high _ _ _ _ c.if-a-eq0.false c.loop-count.invariant.0 c.loop-count.invariant.1)
 
-pub overflow-add-count-in-loop-count : goal.overflow-add-count-in-loop-count
-overflow-add-count-in-loop-count c =
+pub overflow_add-count-in-loop-count : goal.overflow_add-count-in-loop-count
+overflow_add-count-in-loop-count c =
     omega (arith, counted_high _ _ _ _ c.if-a-eq0.false c.loop-count.invariant.0 c.loop-count.invariant.1)
 
-pub overflow-add-d : goal.overflow-add-d
-overflow-add-d c =
+pub overflow_add-d : goal.overflow_add-d
+overflow_add-d c =
     omega (arith, passed_high _ _ _ _ c.if-a-eq0.false c.loop-count.invariant.0 c.loop-count.invariant.1)
 
 pub loop-count-smaller : goal.loop-count-smaller

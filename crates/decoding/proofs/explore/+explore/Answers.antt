@@ -4,7 +4,7 @@ use Rattle.decoding.specs.Roots.{Told}
 use Rattle.decoding.proofs.Memory.{next_fits, deeper_fits, deeper_next, weighted_one, weighted_next, nonzero_from}
 use Rattle.decoding.proofs.Branches.{standing_none, standing_by, standing_same, chosen_fits, chosen_counted, path_length_below, path_below, found_length_below, branch_more, branch_over}
 use Rattle.decoding.proofs.explore.+explore.Goals as goal
-use Rattle.decoding.proofs.explore.+explore.Goals.{then-begins+in-ok-total, else-begins}
+use Rattle.decoding.proofs.explore.+explore.Goals.{then-begins+in_ok-total, else-begins}
 
 pub split_at_mut-next-requires : goal.split_at_mut-next-requires
 split_at_mut-next-requires g t c = next_fits c.args.left (c.args.d * c.args.w) _ c.requires.some c.if-left-eq1.false c.requires.room
@@ -64,8 +64,8 @@ explore-requires g t c κs within =
       ),
     )
 
-pub returns-in-err-total : goal.returns-in-err-total
-returns-in-err-total g t c =
+pub returns-in_err-total : goal.returns-in_err-total
+returns-in_err-total g t c =
     let m = g.F.Field.meaning c.args.field.now in
     let laws = g.met.F.Field.lawful c.args.field.now in
     let element : c.loop-c.c < m.size = omega (arith, c.loop-c-test.true, c.size-c-end.ensures) in
@@ -88,10 +88,10 @@ returns-in-err-total g t c =
             c.requires.counted c.loop-c.total c.loop-c.path c.loop-c.found element state c.explore.new.path c.explore.new.found
             told.same_path.0 told.same_path.1 told.same_length,
       );
-      told = subst (Told m Q c.args.left (length path) (take (length path - c.args.left) path) c.args.count found c.explore.new.found) (sym c.from-residual.ensures)
+      told = subst (Told m Q c.args.left (length path) (take (length path - c.args.left) path) c.args.count found c.explore.new.found) (sym c.from_residual.ensures)
           (branch_over m laws Q Q' c.args.left c.loop-c.c c.advance.ensures.roots path found deep c.requires.fits c.args.count
           c.requires.counted c.loop-c.total c.loop-c.path c.loop-c.found element state c.explore.new.path c.explore.new.found
-          told.same_path.0 told.same_path.1 told.same_length c.in-err-total.ensures.told);
+          told.same_path.0 told.same_path.1 told.same_length c.in_err-total.ensures.told);
     }
 
 pub loop-c-preserved : goal.loop-c-preserved
@@ -108,11 +108,11 @@ loop-c-preserved g t c =
       c.if-begins.auto.next ∙ c.loop-c.invariant.1,
       subst (λ (n : ℕ). (c.args.left - 2) * (c.args.d * c.args.w) ≤ n) (sym c.if-begins.auto.deeper) c.loop-c.invariant.2,
       elim c.if-begins.branch [
-        | then-begins+in-ok-total w ↦
+        | then-begins+in_ok-total w ↦
             standing_by m Q c.args.left path found c.args.count _ _ _ _ _ _ _ w.total-is w.path-is w.found-is
             (branch_more m laws Q (grid c.args.w c.args.d w.advance.new.next) c.args.left c.loop-c.c w.advance.ensures.roots path found deep c.requires.fits
             c.args.count c.requires.counted c.loop-c.total c.loop-c.path c.loop-c.found element state w.explore.new.path w.explore.new.found
-            w.explore.ensures.same_path.0 w.explore.ensures.same_path.1 w.explore.ensures.same_length _ w.in-ok-total.ensures.told)
+            w.explore.ensures.same_path.0 w.explore.ensures.same_path.1 w.explore.ensures.same_length _ w.in_ok-total.ensures.told)
         | else-begins w ↦
             standing_by m Q c.args.left path found c.args.count _ _ _ _ _ _ _ w.total-is w.path-is w.found-is
             (standing_same m Q c.args.left c.requires.some path found c.requires.fits c.args.count c.requires.counted c.loop-c.c c.loop-c.total c.loop-c.path c.loop-c.found

@@ -4,8 +4,8 @@ use Rattle.decoding.proofs.Entries.{part_elements, beginning, no_beginning}
 use Rattle.decoding.proofs.Memory.{one-group}
 use Rattle.decoding.proofs.explore.begins.Goals as goal
 
-pub slice-bounds-value-end : goal.slice-bounds-value-end
-slice-bounds-value-end g c = one-group c.args.w c.args.d c.args.stage.now c.requires.deep c.requires.sized
+pub slice_bounds-value-end : goal.slice_bounds-value-end
+slice_bounds-value-end g c = one-group c.args.w c.args.d c.args.stage.now c.requires.deep c.requires.sized
 
 pub value-requires : goal.value-requires
 value-requires g c = record {

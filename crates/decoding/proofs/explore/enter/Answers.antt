@@ -2,8 +2,8 @@ use Rattle.std.proofs.Common.{◌≡◌, sym, ◌∙◌, add-one, arith, rules}
 use Rattle.decoding.proofs.Entries.{count_within, entered_within, entered_length, entered_front, entered_beyond}
 use Rattle.decoding.proofs.explore.enter.Goals as goal
 
-pub overflow-add-result : goal.overflow-add-result
-overflow-add-result c = search (rules, count_within c.args.found.now c.args.f.now c.args.count c.requires.counted c.requires.some)
+pub overflow_add-result : goal.overflow_add-result
+overflow_add-result c = search (rules, count_within c.args.found.now c.args.f.now c.args.count c.requires.counted c.requires.some)
 
 pub returns : goal.returns
 returns c =

@@ -2,8 +2,8 @@ use Rattle.std.proofs.Common.{◌≡◌, ℕ, ◌+◌, ◌-◌, ◌*◌, true, f
 use Rattle.decoding.proofs.Entries.{group_end, part_elements, all_vanish, one_stays}
 use Rattle.decoding.proofs.explore.vanishes.Goals as goal
 
-pub slice-bounds-value-end : goal.slice-bounds-value-end
-slice-bounds-value-end g c = group_end c.loop-g.g c.args.w c.args.d c.args.stage.now c.requires.sized c.loop-g-test.true
+pub slice_bounds-value-end : goal.slice_bounds-value-end
+slice_bounds-value-end g c = group_end c.loop-g.g c.args.w c.args.d c.args.stage.now c.requires.sized c.loop-g-test.true
 
 pub value-requires : goal.value-requires
 value-requires g c = record {

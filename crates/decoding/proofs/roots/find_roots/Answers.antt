@@ -7,7 +7,7 @@ use Rattle.decoding.proofs.roots.find_roots.Goals as goal
 
 pub run-requires : goal.run-requires
 run-requires g c =
-    let ok = accepted (g.F.Field.meaning c.args.field.now) c.args.a c.args.d c.args.coefficients.now _ _ c.in-ok-check.ensures.0 in
+    let ok = accepted (g.F.Field.meaning c.args.field.now) c.args.a c.args.d c.args.coefficients.now _ _ c.in_ok-check.ensures.0 in
     record {
       weight = ok.weight;
       light = ok.light;
@@ -27,13 +27,13 @@ returns-in-Some g c =
     let d = c.args.d in
     let cs = c.args.coefficients.now in
     let found = c.args.found.now in
-    let ok = accepted m a d cs (length found) (length c.args.memory.now) c.in-ok-check.ensures.0 in
+    let ok = accepted m a d cs (length found) (length c.args.memory.now) c.in_ok-check.ensures.0 in
     let bytes = c.found_bytes-room.ensures in
     let room = subst (λ (n : ℕ). n ≤ length found) (sym bytes) ok.room in
     let same = c.run.ensures.same_length ∙ front_length _ found room in
     record {
       answer = (
-        c.in-ok-check.ensures.0,
+        c.in_ok-check.ensures.0,
         (
           roots_found m laws a d cs found c.run.new.found c.found_bytes-room.result bytes room same c.run.ensures.few c.in-Some.count c.in-Some.ensures.told,
           beyond m laws a d cs found c.run.new.found c.found_bytes-room.result bytes room same c.run.ensures.few c.in-Some.count c.in-Some.ensures.told,
@@ -51,7 +51,7 @@ returns-in-None g c =
     let d = c.args.d in
     let cs = c.args.coefficients.now in
     let found = c.args.found.now in
-    let ok = accepted m a d cs (length found) (length c.args.memory.now) c.in-ok-check.ensures.0 in
+    let ok = accepted m a d cs (length found) (length c.args.memory.now) c.in_ok-check.ensures.0 in
     let bytes = c.found_bytes-room.ensures in
     let room = subst (λ (n : ℕ). n ≤ length found) (sym bytes) ok.room in
     let same = c.run.ensures.same_length ∙ front_length _ found room in

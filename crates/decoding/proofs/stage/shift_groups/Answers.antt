@@ -1,8 +1,8 @@
 use Rattle.decoding.proofs.Grids.{part_end, part_elements, groups_more}
 use Rattle.decoding.proofs.stage.shift_groups.Goals as goal
 
-pub slice-bounds-shift-end : goal.slice-bounds-shift-end
-slice-bounds-shift-end g c =
+pub slice_bounds-shift-end : goal.slice_bounds-shift-end
+slice_bounds-shift-end g c =
     part_end _ (g.met.F.Field.lawful c.args.field.now) c.args.c c.args.w c.args.d c.loop-g.g c.requires.by c.args.stage.now c.loop-g.stage
     c.requires.sized c.loop-g-test.true c.loop-g.invariant.0 c.loop-g.invariant.1
 

@@ -3,11 +3,11 @@ use Rattle.decoding.proofs.Grids.{source_below, spread_more, spread-all}
 use Rattle.decoding.proofs.stage.spread.Goals as goal
 use Rattle.decoding.proofs.stage.spread.Goals.{then-g-j, else-g-j}
 
-pub overflow-mul-stage : goal.overflow-mul-stage
-overflow-mul-stage c = search (rules, source_below c.args.w (c.loop-k.k - 1))
+pub overflow_mul-stage : goal.overflow_mul-stage
+overflow_mul-stage c = search (rules, source_below c.args.w (c.loop-k.k - 1))
 
-pub overflow-add-stage : goal.overflow-add-stage
-overflow-add-stage c = search (rules, source_below c.args.w (c.loop-k.k - 1))
+pub overflow_add-stage : goal.overflow_add-stage
+overflow_add-stage c = search (rules, source_below c.args.w (c.loop-k.k - 1))
 
 pub bounds-stage-g : goal.bounds-stage-g
 bounds-stage-g c = omega (arith, source_below c.args.w (c.loop-k.k - 1), c.loop-k.invariant.0, c.loop-k.auto.stage, c.requires.sized, c.loop-k-test.true)

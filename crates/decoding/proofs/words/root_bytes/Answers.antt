@@ -2,8 +2,8 @@ use Rattle.std.proofs.Common.{◌≤◌, arith}
 use Rattle.decoding.proofs.Bytes.{bytes_small, bytes_answered, bytes_bounded}
 use Rattle.decoding.proofs.words.root_bytes.Goals as goal
 
-pub overflow-add-result : goal.overflow-add-result
-overflow-add-result c = record {
+pub overflow_add-result : goal.overflow_add-result
+overflow_add-result c = record {
   fits = omega (
     arith,
     bytes_small c.args.a c.bound-d.result (omega (arith, c.if-a-gt255.false)) (omega (arith, c.bound-d.ensures.high, c.if-n-gt256.false)),

@@ -9,8 +9,8 @@ loop-place-init g c =
     written_none _ (g.met.F.Field.lawful c.args.field.now) _ _ _ _ c.requires.place c.requires.value c.requires.weight c.requires.degree
     c.args.out.now
 
-pub overflow-sub-left : goal.overflow-sub-left
-overflow-sub-left g c =
+pub overflow_sub-left : goal.overflow_sub-left
+overflow_sub-left g c =
     let room : length c.loop-place.out ≤ term_count c.args.a c.args.d = omega (arith, c.requires.room) in
     written_left _ (g.met.F.Field.lawful c.args.field.now) _ _ _ _ c.requires.place c.requires.value c.requires.weight c.requires.degree
     _ room _ _ _ _ _ c.loop-place.invariant (omega arith)

@@ -13,7 +13,7 @@ solve-requires g c =
     let a : ℕ = c.args.a in
     let n : ℕ = length c.args.word.now in
     let ok : Accepted m a c.args.word.now (length c.args.coefficients.now) (length c.args.memory.now) =
-    accepted m a c.args.word.now _ _ c.in-ok-check.ensures.0 in
+    accepted m a c.args.word.now _ _ c.in_ok-check.ensures.0 in
     record {
       elements = ok.elements;
       places = ok.places;
@@ -33,12 +33,12 @@ returns g c =
     let points = points_from 0 c.args.word.now in
     let out : List ℕ = c.solve.new.out in
     let ok : Accepted m a c.args.word.now (length c.args.coefficients.now) (length c.args.memory.now) =
-    accepted m a c.args.word.now _ _ c.in-ok-check.ensures.0 in
+    accepted m a c.args.word.now _ _ c.in_ok-check.ensures.0 in
     let long : length out ≡ n + 1 = c.solve.auto.out ∙ front_length (n + 1) c.args.coefficients.now ok.room in
     let wide : length c.solve.new.vectors ≡ (n + 1) * (n + 1) = c.solve.auto.vectors ∙ front_length ((n + 1) * (n + 1)) c.args.memory.now ok.memory in
     record {
       answer = (
-        c.in-ok-check.ensures.0,
+        c.in_ok-check.ensures.0,
         (
           bound_is a n _ c.degree_bound.result ok.weight c.degree_bound.ensures.answer c.unwrap_or-d.ensures,
           subst (λ (cs : List ℕ). Interpolates m a d points (polynomial a d cs)) (sym (take_at out _ (n + 1) long)) c.solve.ensures,

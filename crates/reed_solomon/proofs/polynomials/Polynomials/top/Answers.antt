@@ -1,14 +1,14 @@
 use Rattle.reed_solomon.proofs.PolynomialSteps.{unit_positive, top_fits, top_is}
 use Rattle.reed_solomon.proofs.polynomials.Polynomials.top.Goals as goal
 
-pub nonzero-div-result-2 : goal.nonzero-div-result-2
-nonzero-div-result-2 g c =
+pub nonzero_div-result-2 : goal.nonzero_div-result-2
+nonzero_div-result-2 g c =
     let p = c.args.self.now in
     unit_positive _ (g.met.F.Field.lawful p.field) p.size p.coefficients p.count c.args.user c.requires.sound
     p.coefficients_low p.counted c.requires.member
 
-pub overflow-cast-result-2 : goal.overflow-cast-result-2
-overflow-cast-result-2 g c =
+pub overflow_cast-result-2 : goal.overflow_cast-result-2
+overflow_cast-result-2 g c =
     let p = c.args.self.now in
     record {
       fits = top_fits _ (g.met.F.Field.lawful p.field) p.size p.coefficients p.count c.args.user c.requires.sound
