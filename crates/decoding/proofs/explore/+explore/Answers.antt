@@ -12,7 +12,7 @@ split_at_mut-next-requires g t c = next_fits c.args.left (c.args.d * c.args.w) _
 pub loop-c-init : goal.loop-c-init
 loop-c-init g t c = (
   omega arith,
-  c.split_at_mut-next.ensures.front-len,
+  c.split_at_mut-next.ensures.front_len,
   deeper_fits c.args.left (c.args.d * c.args.w) _ _ c.requires.some c.if-left-eq1.false c.requires.room c.split_at_mut-next.ensures.back_len,
   standing_none _ _ c.args.left c.requires.some c.args.path.now c.args.found.now c.requires.fits c.args.count c.requires.counted,
 )

@@ -8,8 +8,8 @@ returns-in_err-enough g c =
     let m = g.F.Field.meaning c.args.field.now in
     let laws = g.met.F.Field.lawful c.args.field.now in
     let ok = accepted m c.args.a c.args.word.now (length c.args.found.now) (length c.args.memory.now) c.in_ok-check.ensures.0 in
-    absurd (never_both _ _ (interpolates_on m laws c.args.a c.args.word.now _ _ ok _ _ c.split_at_mut-coefficients.ensures.front-len
-    c.split_at_mut-vectors.ensures.front-len) c.in_err-enough.ensures.answer)
+    absurd (never_both _ _ (interpolates_on m laws c.args.a c.args.word.now _ _ ok _ _ c.split_at_mut-coefficients.ensures.front_len
+    c.split_at_mut-vectors.ensures.front_len) c.in_err-enough.ensures.answer)
 
 pub returns-in_err-count : goal.returns-in_err-count
 returns-in_err-count g c =
@@ -18,7 +18,7 @@ returns-in_err-count g c =
     let ok = accepted m c.args.a c.args.word.now (length c.args.found.now) (length c.args.memory.now) c.in_ok-check.ensures.0 in
     let made = c.in_ok-enough.ensures.answer.1 in
     absurd (never_both _ _ (finds_on m laws c.args.a c.args.word.now _ _ ok c.in_ok-enough.enough c.interpolate.new.coefficients made.0
-    (c.interpolate.ensures.lengths.0 ∙ c.split_at_mut-coefficients.ensures.front-len) made.1 _
+    (c.interpolate.ensures.lengths.0 ∙ c.split_at_mut-coefficients.ensures.front_len) made.1 _
     (parts_fit m laws c.args.a c.args.word.now _ _ ok _ _ c.split_at_mut-coefficients.ensures.back_len c.split_at_mut-vectors.ensures.back_len))
     c.in_err-count.ensures.answer)
 
@@ -35,7 +35,7 @@ returns g c =
         (
           made.0,
           decoded m laws c.args.a c.args.word.now _ _ ok c.in_ok-enough.enough c.interpolate.new.coefficients made.0
-              (c.interpolate.ensures.lengths.0 ∙ c.split_at_mut-coefficients.ensures.front-len) made.1 _ found.0,
+              (c.interpolate.ensures.lengths.0 ∙ c.split_at_mut-coefficients.ensures.front_len) made.1 _ found.0,
           found.1,
         ),
       );
