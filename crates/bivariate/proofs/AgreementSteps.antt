@@ -1,11 +1,11 @@
 -- The steps of a count of the positions at which a word has a polynomial's values.
 -- Assumes nothing.
-use Rattle.std.proofs.Common.{◌≡◌, ℕ, ◌+◌, ◌<◌, ◌≤◌, true, false, cond, ◌&&◌, eqb, ltb, List, [], ◌∷◌, length, get_or, drop, Some, sym, ap, ◌∙◌, add-one, arith}
+use Rattle.std.proofs.Common.{◌≡◌, ℕ, ◌+◌, ◌<◌, ◌≤◌, true, cond, eqb, List, length, get_or, drop, Some, sym, ap, ◌∙◌, add-one, arith}
 use Rattle.std.proofs.lemmas.List.{at_drop_more, at_drop_all}
-use Rattle.std.proofs.lemmas.Bool.{cond-true, cond-false, and_from, and_left, and_parts, lt-ltb, le-ltb, ltb-true, le-leb, eq-eqb, ne_eqb}
+use Rattle.std.proofs.lemmas.Bool.{cond-true, cond-false, and_from, lt-ltb, le-leb, eq-eqb, ne_eqb}
 use Rattle.field.specs.Meaning.{FieldMeaning, FieldLaws}
 use Rattle.field.specs.Polynomial.{value_at}
-use Rattle.bivariate.specs.Bivariate.{Elements, agreement, points_from, AgreementForcesRoot}
+use Rattle.bivariate.specs.Bivariate.{agreement, points_from, AgreementForcesRoot}
 use Rattle.bivariate.specs.Values.{elements_only, value_answer, agreement_answer}
 use Rattle.bivariate.proofs.ElementTests.{elements_from}
 use Rattle.bivariate.proofs.ForcedRoots.{agreement_forces_root, word_places, word_points}

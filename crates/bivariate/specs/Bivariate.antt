@@ -1,6 +1,6 @@
 -- Polynomials in x and y over a field of numbers.
 -- A polynomial in x is the list of its coefficients, lowest first. One in x and y is the list of its coefficients by powers of y, lowest first, each a polynomial in x.
-use Rattle.std.specs.Prelude.{◌≡◌, ℕ, zero, suc, ◌+◌, ◌*◌, ◌<◌, ◌≤◌, cond, List, [], ◌∷◌, map, length, ◌==◌, slice_index, slice_index_or}
+use Rattle.std.specs.Prelude.{◌≡◌, ℕ, suc, ◌+◌, ◌*◌, ◌<◌, ◌≤◌, cond, List, [], ◌∷◌, length, ◌==◌, slice_index, slice_index_or}
 use Rattle.std.specs.List.{AllByRecursion as All}
 use Rattle.field.specs.Meaning.{FieldMeaning}
 use Rattle.field.specs.Polynomial.{value_at}

@@ -1,5 +1,5 @@
 -- Polynomials in x and y laid out in w·d numbers: the coefficient of x^g·y^j stands at g·w + j, for g < d and j < w.
-use Rattle.std.specs.Prelude.{◌≡◌, ℕ, zero, suc, ◌+◌, ◌*◌, ◌<◌, ◌≤◌, List, [], ◌∷◌, map, take, drop, slice_index}
+use Rattle.std.specs.Prelude.{◌≡◌, ℕ, ◌+◌, ◌*◌, ◌<◌, ◌≤◌, List, [], ◌∷◌, map, take, drop, slice_index}
 use Rattle.std.specs.List.{range_with_len}
 use Rattle.field.specs.Meaning.{FieldMeaning}
 

@@ -1,5 +1,5 @@
 -- The terms x^g·y^j with g + a·j < d: how many they are, in which order their coefficients stand, and how great d must be.
-use Rattle.std.specs.Prelude.{◌≡◌, ℕ, zero, suc, ◌+◌, ◌-◌, ◌*◌, ◌/◌, ◌<◌, ◌≤◌, List, [], ◌∷◌, ◌++◌, take, drop, sum_by, nat_lt}
+use Rattle.std.specs.Prelude.{ℕ, zero, suc, ◌+◌, ◌-◌, ◌*◌, ◌/◌, ◌<◌, ◌≤◌, List, [], ◌∷◌, ◌++◌, take, drop, sum_by, nat_lt}
 use Rattle.std.specs.List.{range_with_len}
 use Rattle.field.specs.Meaning.{FieldMeaning, first_from}
 

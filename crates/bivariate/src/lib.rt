@@ -1,4 +1,6 @@
 // Polynomials in two variables over any field.
+#![tactic(auto)]
+
 mod agreements;
 mod strangers;
 mod terms;

@@ -1,5 +1,5 @@
 -- The concatenation of an outer code with an inner code: each outer symbol is the inner user whose table stands in its place.
-use Rattle.std.specs.Prelude.{ℕ, ◌+◌, ◌*◌, ◌/◌, ◌%◌, min, Bool, cond, not, ◌&&◌, List, [], ◌∷◌, nat_le, nat_lt}
+use Rattle.std.specs.Prelude.{ℕ, ◌+◌, ◌*◌, ◌/◌, ◌%◌, min, Bool, cond, ◌&&◌, List, [], ◌∷◌, nat_le, nat_lt}
 use Rattle.code.specs.Meaning.{CodeMeaning, lone}
 use Rattle.refusal.specs.Refusals.{Row, row}
 use Rattle.refusal.specs.declared.Refusal.TheVariants.{InnerUsersTooFew, LengthTooLong}

@@ -1,9 +1,9 @@
 -- The laws of a concatenation, from those of its parts.
 -- Assumes nothing.
-use Rattle.std.specs.Prelude.{◌≡◌, ℕ, zero, suc, ◌+◌, ◌*◌, ◌/◌, ◌%◌, ◌<◌, ◌≤◌, Bool, true, false, cond, ◌&&◌, Some, None, Option, ◌==◌, nat_eq, nat_le, refl}
+use Rattle.std.specs.Prelude.{◌≡◌, ℕ, zero, suc, ◌+◌, ◌*◌, ◌/◌, ◌%◌, ◌<◌, ◌≤◌, Bool, true, false, cond, Some, None, Option, ◌==◌, nat_eq, nat_le, refl}
 use Rattle.std.proofs.Common.{sym, ap, ap₂, ◌∙◌, ⊎_elim, zero-le, mod-lt, mul-pos, zero-mul, one-mul, suc-mul, add-mul, mul-le-mul_right, arith}
 use Rattle.std.proofs.Math.Nat.{le-min}
-use Rattle.std.proofs.lemmas.Bool.{cases_lt, lt-ltb, le-ltb, ltb-true, leb-true, eqb-false, and_parts, cond-true, cond_both}
+use Rattle.std.proofs.lemmas.Bool.{cases_lt, leb-true, eqb-false, and_parts, cond-true, cond_both}
 use Rattle.std.proofs.lemmas.Nat.{div_below, le-div, div-mul-add, mod-mul-add}
 use Rattle.field.specs.Polynomial.{agreements}
 use Rattle.code.specs.Meaning.{CodeMeaning, CodeLaws, symbol_at, lone}

@@ -1,4 +1,6 @@
 // Codes, which give each user a table of key numbers: an interface with a meaning and laws, and the concatenation of any two codes.
+#![tactic(auto)]
+
 ghost use Rattle.std.specs.Prelude.{◌≡◌, ◌<◌, ◌≤◌, IfSome, ◌==◌, ◌≢◌};
 ghost use Rattle.code.specs.Meaning.{CodeMeaning, CodeLaws, symbol_at, shared_positions};
 

@@ -1,13 +1,13 @@
 -- What the steps of a stage, one after the other, do to the roots.
 -- Assumes nothing.
-use Rattle.std.proofs.Common.{◌≡◌, ℕ, zero, suc, ◌+◌, ◌-◌, ◌*◌, ◌/◌, ◌%◌, ◌<◌, ◌≤◌, ◌↔◌, List, [], ◌∷◌, length, get_or, take, drop, sym, refl, ap, ◌∙◌, subst, mul_comm, mul-zero, arith}
+use Rattle.std.proofs.Common.{◌≡◌, ℕ, zero, suc, ◌+◌, ◌-◌, ◌*◌, ◌/◌, ◌%◌, ◌<◌, ◌≤◌, ◌↔◌, List, ◌∷◌, length, get_or, drop, sym, ap, ◌∙◌, subst, mul_comm, mul-zero, arith}
 use native.Mathlib.Decide.{dec_le}
 use Rattle.std.proofs.lemmas.List.{get_or-take, get_or-drop}
 use Rattle.std.proofs.ByRecursion.{All-get_or, All-from_get_or}
 use Rattle.std.proofs.lemmas.Nat.{mul-add-lt, div-add-mod', div_below, mod_below}
 use Rattle.field.specs.Meaning.{FieldMeaning, FieldLaws}
 use Rattle.bivariate.specs.Bivariate.{Elements, Root}
-use Rattle.bivariate.specs.Grid.{cell, group, grid, shifted, Weighted, Nonzero}
+use Rattle.bivariate.specs.Grid.{cell, group, grid, Weighted, Nonzero}
 use Rattle.bivariate.specs.Steps.{Divided}
 use Rattle.bivariate.proofs.GridRoots.{Substituted, root_divided, root_substituted, weighted_divided, weighted_substituted, nonzero_substituted}
 use Rattle.decoding.specs.Stages.{Shifted, Spread}

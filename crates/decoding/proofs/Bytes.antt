@@ -1,6 +1,6 @@
 -- How many bytes the search wants.
 -- Assumes nothing.
-use Rattle.std.proofs.Common.{◌≡◌, ℕ, suc, ◌+◌, ◌-◌, ◌*◌, ◌^◌, ◌<◌, ◌≤◌, cond, leb, Some, None, sym, ap, ◌∙◌, subst, ap₂, mul_comm, mul-add, div-le_self, add-one, arith}
+use Rattle.std.proofs.Common.{◌≡◌, ℕ, suc, ◌+◌, ◌-◌, ◌*◌, ◌≤◌, Some, sym, ap, ◌∙◌, subst, ap₂, mul_comm, mul-add, div-le_self, add-one, arith}
 use Rattle.std.proofs.lemmas.Nat.{mul-le}
 use Rattle.std.proofs.lemmas.Bool.{cond-true, and_from, le-leb}
 use Rattle.bivariate.specs.Terms.{degree_bound, most_y}

@@ -1,7 +1,6 @@
 -- Where decoding does not refuse, neither interpolation nor the search does; and what is then found.
 -- Assumes nothing.
-use Rattle.std.proofs.Common.{◌≡◌, ℕ, suc, ◌+◌, ◌-◌, ◌*◌, ◌<◌, ◌≤◌, true, false, not, ◌&&◌, leb, List, [], ◌∷◌, length, take, Some, None, Option, sym, refl, ap, ◌∙◌, subst, mul-one, mul-add, arith}
-use Rattle.std.specs.List.{AllByRecursion as All}
+use Rattle.std.proofs.Common.{◌≡◌, ℕ, suc, ◌+◌, ◌*◌, ◌<◌, ◌≤◌, false, not, leb, List, length, take, Some, None, Option, sym, ap, ◌∙◌, subst, mul-one, mul-add, arith}
 use Rattle.std.proofs.lemmas.List.{take_all}
 use Rattle.std.proofs.lemmas.Bool.{and_from, and_parts, not-false, leb-true, le-leb, ltb-false, le-ltb}
 use Rattle.field.specs.Meaning.{FieldMeaning, FieldLaws}
@@ -17,7 +16,7 @@ use Rattle.refusal.specs.Refusals.{within}
 use Rattle.refusal.proofs.Rows.{no_row, no_refusal}
 use Rattle.interpolation.specs.Interpolation.{interpolation_rows}
 use Rattle.interpolation.specs.declared.fault.Fault.{Fault}
-use Rattle.decoding.specs.Decoding.{pieces, RootsFound, found_bytes, memory_bytes, decoding_bytes, root_rows, decoding_rows, Decoded}
+use Rattle.decoding.specs.Decoding.{RootsFound, found_bytes, memory_bytes, decoding_bytes, root_rows, decoding_rows, Decoded}
 use Rattle.decoding.proofs.Inputs.{only_zeros_false}
 
 -- ---- tests that were passed

@@ -1,10 +1,9 @@
 -- The first stage of the search: the polynomial laid out in a grid and divided by a power of x.
 -- Assumes nothing.
-use Rattle.std.proofs.Common.{◌≡◌, ℕ, zero, suc, ◌+◌, ◌-◌, ◌*◌, ◌/◌, ◌<◌, ◌≤◌, ◌↔◌, List, [], ◌∷◌, length, get_or, take, drop, Some, None, Option, sym, refl, ap, ◌∙◌, subst, suc-mul, add-one, arith}
-use native.Mathlib.Decide.{dec_le}
+use Rattle.std.proofs.Common.{◌≡◌, ℕ, zero, suc, ◌+◌, ◌-◌, ◌*◌, ◌/◌, ◌<◌, ◌≤◌, ◌↔◌, List, [], ◌∷◌, length, get_or, take, drop, Some, None, Option, sym, refl, ap, ◌∙◌, subst, add-one, arith}
 use Rattle.std.specs.List.{AllByRecursion as All}
-use Rattle.std.proofs.ByRecursion.{All-get_or, All-weaker}
-use Rattle.std.proofs.lemmas.List.{length-take, get_or_past}
+use Rattle.std.proofs.ByRecursion.{All-weaker}
+use Rattle.std.proofs.lemmas.List.{length-take}
 use Rattle.field.specs.Meaning.{FieldMeaning, FieldLaws}
 use Rattle.bivariate.specs.Bivariate.{Elements, Zeros, Root, Distinct, coefficient}
 use Rattle.bivariate.specs.Grid.{cell, grid, Weighted, Nonzero}
@@ -12,7 +11,7 @@ use Rattle.bivariate.specs.Steps.{Divided}
 use Rattle.bivariate.specs.Terms.{term_count, most_y, by_powers, polynomial}
 use Rattle.bivariate.proofs.Coefficients.{polynomial-elements, polynomial_zeros, polynomial_weighted}
 use Rattle.bivariate.proofs.GridRoots.{root_laid_out, nonzero_laid_out, root_divided, weighted_divided, few_roots}
-use Rattle.decoding.specs.Roots.{RootWith, RootsBelow, Told}
+use Rattle.decoding.specs.Roots.{RootWith, Told}
 use Rattle.decoding.proofs.Advance.{from_cells, divided_elements}
 
 -- ---- the polynomial's rows

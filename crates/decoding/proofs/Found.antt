@@ -1,7 +1,6 @@
 -- What is known where the search does not refuse, and what then stands in the memory for the roots.
 -- Assumes nothing.
-use Rattle.std.proofs.Common.{◌≡◌, ℕ, zero, suc, ◌+◌, ◌-◌, ◌*◌, ◌<◌, ◌≤◌, leb, List, [], ◌∷◌, ◌++◌, length, get_or, take, drop, Some, None, sym, refl, ap, ◌∙◌, subst, ap₂, mul-le-mul_right, suc-mul, zero-mul, arith}
-use native.Mathlib.Decide.{dec_le}
+use Rattle.std.proofs.Common.{◌≡◌, ℕ, suc, ◌+◌, ◌-◌, ◌*◌, ◌<◌, ◌≤◌, leb, List, [], ◌∷◌, ◌++◌, length, get_or, take, drop, Some, None, sym, refl, ap, ◌∙◌, subst, ap₂, mul-le-mul_right, suc-mul, zero-mul, arith}
 use Rattle.std.specs.List.{flat_map, AllByRecursion as All}
 use Rattle.std.proofs.ByRecursion.{All-weaker}
 use Rattle.std.proofs.lemmas.List.{take-take, take_at, take-append-le, drop_at, drop-take, drop-append-le, take-append-drop}
@@ -15,7 +14,7 @@ use Rattle.bivariate.proofs.WrittenFronts.{front_length}
 use Rattle.refusal.specs.Tables.{first_refusal}
 use Rattle.refusal.specs.Refusals.{within}
 use Rattle.refusal.proofs.Rows.{no_row}
-use Rattle.decoding.specs.Decoding.{pieces, only_zeros, RootsFound, found_bytes, memory_bytes, root_rows}
+use Rattle.decoding.specs.Decoding.{pieces, RootsFound, found_bytes, memory_bytes, root_rows}
 use Rattle.decoding.specs.Roots.{RootWith, TooMany, Told}
 use Rattle.decoding.proofs.Inputs.{not_zeros}
 

@@ -1,18 +1,17 @@
 -- The steps by which a grid of coefficients is shifted, spread and divided in place.
 -- Assumes nothing.
-use Rattle.std.proofs.Common.{◌≡◌, ℕ, zero, suc, ◌+◌, ◌-◌, ◌*◌, ◌/◌, ◌%◌, ◌<◌, ◌≤◌, ◌≢◌, List, [], ◌∷◌, ◌++◌, length, get_or, take, drop, set, sym, refl, ap, ◌∙◌, subst, ap₂, mul-le-mul_right, suc-mul, add-mul, zero-mul, arith}
+use Rattle.std.proofs.Common.{◌≡◌, ℕ, suc, ◌+◌, ◌-◌, ◌*◌, ◌/◌, ◌%◌, ◌<◌, ◌≤◌, ◌≢◌, List, ◌++◌, length, get_or, take, drop, set, sym, ap, ◌∙◌, subst, ap₂, mul-le-mul_right, suc-mul, add-mul, arith}
 use native.Mathlib.Decide.{ℕ_discrete, dec_le}
 use borrow.Rule.Slice.PartMut.{put_mid}
-use Rattle.std.specs.List.{AllByRecursion as All}
 use Rattle.std.proofs.lemmas.Nat.{mul-add-lt, div-mul-add, mod-mul-add, div_below, mod_below, div-add-mod'}
-use Rattle.std.proofs.ByRecursion.{All-get_or, All-take, All-drop, All-append}
-use Rattle.std.proofs.lemmas.List.{length-set, get_or-set_same, get_or-set_other, length-take-le, length-drop, length-append, take_at, drop_at, drop-take, get_or-take, get_or-drop}
+use Rattle.std.proofs.ByRecursion.{All-take, All-drop, All-append}
+use Rattle.std.proofs.lemmas.List.{length-set, get_or-set_same, get_or-set_other, length-take-le, length-drop, length-append, take_at, drop_at, drop-take}
 use Rattle.std.proofs.lemmas.Slice.{take-put_mid_below, drop-put_mid}
 use Rattle.field.specs.Meaning.{FieldMeaning, FieldLaws}
 use Rattle.bivariate.specs.Bivariate.{Elements}
 use Rattle.bivariate.specs.Grid.{cell, group, shifted, Nonzero}
 use Rattle.bivariate.specs.Steps.{Divided}
-use Rattle.decoding.specs.Stages.{Shifted, Spread, Indivisible}
+use Rattle.decoding.specs.Stages.{Spread, Indivisible}
 use Rattle.decoding.proofs.Shifts.{shifted-length, shifted-elements}
 
 -- the next row begins where this one ends

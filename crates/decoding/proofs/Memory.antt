@@ -1,6 +1,6 @@
 -- How the memory is shared between the stages, and what a stage asks of the one above it.
 -- Assumes nothing.
-use Rattle.std.proofs.Common.{◌≡◌, ℕ, zero, suc, ◌+◌, ◌-◌, ◌*◌, ◌<◌, ◌≤◌, List, length, sym, ap, ◌∙◌, subst, mul-le-mul_right, suc-mul, one-mul, zero-mul, add-one, arith}
+use Rattle.std.proofs.Common.{◌≡◌, ℕ, suc, ◌+◌, ◌-◌, ◌*◌, ◌≤◌, List, length, sym, ap, ◌∙◌, subst, mul-le-mul_right, suc-mul, one-mul, zero-mul, add-one, arith}
 use Rattle.bivariate.specs.Grid.{Weighted, Nonzero}
 use Rattle.decoding.specs.Stages.{Indivisible}
 

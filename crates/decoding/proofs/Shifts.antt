@@ -1,9 +1,8 @@
 -- The steps by which a polynomial in y is shifted in place.
 -- Assumes nothing.
-use Rattle.std.proofs.Common.{◌≡◌, ℕ, zero, suc, ◌+◌, ◌-◌, ◌*◌, ◌<◌, ◌≤◌, ◌≢◌, List, [], ◌∷◌, ◌++◌, length, get_or, take, drop, set, sym, refl, ap, ◌∙◌, subst, ap₂, add-one, arith}
+use Rattle.std.proofs.Common.{◌≡◌, ℕ, zero, suc, ◌+◌, ◌-◌, ◌<◌, ◌≤◌, List, [], ◌∷◌, ◌++◌, length, get_or, take, drop, set, sym, refl, ap, ◌∙◌, subst, ap₂, add-one, arith}
 use native.Mathlib.Decide.{ℕ_discrete}
 use borrow.Rule.Slice.PartMut.{put_mid}
-use Rattle.std.specs.List.{AllByRecursion as All}
 use Rattle.std.proofs.ByRecursion.{All-get_or, All-drop}
 use Rattle.std.proofs.lemmas.List.{length-set, get_or-set_same, get_or-set_other, ext_get_or, length-drop, length-take-le, append-nil, append_assoc, drop_all, take_all, take_at, drop_at, drop_more, take_more, take_rest}
 use Rattle.field.specs.Meaning.{FieldMeaning, FieldLaws}

@@ -1,5 +1,5 @@
 -- What finding roots does to a polynomial in x and y, laid out in a grid, on the way to the next coefficient.
-use Rattle.std.specs.Prelude.{◌≡◌, ℕ, ◌+◌, ◌-◌, ◌<◌, ◌≤◌, List, length, get_or}
+use Rattle.std.specs.Prelude.{◌≡◌, ℕ, ◌-◌, ◌<◌, ◌≤◌, List, length}
 use Rattle.field.specs.Meaning.{FieldMeaning}
 use Rattle.bivariate.specs.Grid.{cell, group, shifted}
 

@@ -1,4 +1,6 @@
 // List decoding: all polynomials that agree with a word in many positions.
+#![tactic(auto)]
+
 mod explore;
 mod roots;
 mod stage;

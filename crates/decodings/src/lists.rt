@@ -138,7 +138,7 @@ fn most_roots(rt: HostRuntime) -> Result<(), Fail> {
     let numbers = numbers_of(rt.alloc(), 16, 2, &found)?;
     assert_eq!(rt;
         numbers.as_slice(),
-        &[1, 2, 3, 4, 5, 6, 7, 8, 9, 10, 11, 12, 13, 14, 15]
+        [1, 2, 3, 4, 5, 6, 7, 8, 9, 10, 11, 12, 13, 14, 15].as_slice()
     );
     // y^16 + y, which is 0 at every element with the values of any polynomial
     let mut terms = [0; 153];
@@ -148,7 +148,7 @@ fn most_roots(rt: HostRuntime) -> Result<(), Fail> {
     let numbers = numbers_of(rt.alloc(), 16, 2, &found)?;
     assert_eq!(rt;
         numbers.as_slice(),
-        &[0, 1, 2, 3, 4, 5, 6, 7, 8, 9, 10, 11, 12, 13, 14, 15]
+        [0, 1, 2, 3, 4, 5, 6, 7, 8, 9, 10, 11, 12, 13, 14, 15].as_slice()
     );
     Ok(())
 }

@@ -35,7 +35,7 @@ fn two_numbers(rt: HostRuntime) -> Result<(), Fail> {
         for q in 0..16u8 {
             let decoded = decode(&rt, rt.alloc(), &Gf16, 1, &[p, q])?;
             assert_eq!(rt; decoded.bound, 2);
-            assert_eq!(rt; decoded.found.as_slice(), &[p, p ^ q]);
+            assert_eq!(rt; decoded.found.as_slice(), [p, p ^ q].as_slice());
         }
     }
     Ok(())

@@ -104,7 +104,7 @@ pub(crate) fn numbers_of(
     for f in found.chunks(k.max(1)) {
         users.push(number_of(size, f))?;
     }
-    users.sort();
+    users.sort()?;
     Ok(users)
 }
 

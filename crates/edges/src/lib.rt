@@ -1,4 +1,6 @@
 // Tests at the edges of every range, with a field of two elements that reaches those which the three fields cannot.
+#![tactic(auto)]
+
 ghost use Rattle.edges.specs.Two.{two};
 ghost use Rattle.std.specs.Prelude.{refl};
 ghost use Rattle.std.proofs.Common.{lit<, lit≤};

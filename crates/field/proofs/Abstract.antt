@@ -1,6 +1,6 @@
 -- A field with a carrier of its own, where equality is decided and laws have no premises; and what follows from its laws.
 -- Assumes nothing.
-use Rattle.std.proofs.Common.{◌≡◌, sym, refl, ap, ◌∙◌, ap₂}
+use Rattle.std.proofs.Common.{◌≡◌, sym, ap, ◌∙◌, ap₂}
 
 pub record AbstractField : Type 1 where
   infixl 65 ◌⊕◌

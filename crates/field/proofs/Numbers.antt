@@ -1,6 +1,6 @@
 -- A field of numbers is an abstract field, over the numbers below its size; and what follows for polynomials over it.
 -- Assumes nothing.
-use Rattle.std.proofs.Common.{◌≡◌, ℕ, zero, suc, ◌+◌, ◌<◌, ◌≤◌, cond, eqb, List, [], ◌∷◌, ◌++◌, length, sym, refl, ap, ◌∙◌, ap₂, le_of_lt, add_comm, arith, length-append}
+use Rattle.std.proofs.Common.{◌≡◌, ℕ, zero, suc, ◌+◌, ◌<◌, ◌≤◌, cond, eqb, List, [], ◌∷◌, ◌++◌, length, sym, refl, ap, ◌∙◌, ap₂, le_of_lt, arith}
 use mathlib.Core.Path.{fst_path}
 use mathlib.Core.HLevel.{Σ_prop_path, Σ_prop_discrete}
 use native.Mathlib.Bridge.{le_prop}

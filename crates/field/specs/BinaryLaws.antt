@@ -1,7 +1,7 @@
 -- The laws of the fields of polynomials over two elements: one argument over the width, from tests that antt computes at the powers of x.
 -- Assumes nothing.
 use Rattle.std.specs.Prelude.{◌≡◌, ℕ, zero, suc, ◌+◌, ◌-◌, ◌*◌, ◌/◌, ◌%◌, ◌^◌, ◌<◌, ◌≤◌, Bool, true, ◌==◌, bit_xor, nat_eq, refl}
-use Rattle.std.proofs.Common.{sym, ap, ap₂, ◌∙◌, subst, mod-lt, div-add-mod', pow-suc, one-mul, zero-mul, add-zero, zero-add, arith, lit<, lit≤, pow_pos, shr_lt}
+use Rattle.std.proofs.Common.{sym, ap, ap₂, ◌∙◌, subst, mod-lt, div-add-mod', pow-suc, zero-mul, zero-add, arith, lit<, lit≤, pow_pos, shr_lt}
 use Rattle.std.proofs.lemmas.Nat.{xor_lt, xor_comm, xor_block}
 use Rattle.std.specs.Int.Bits.{xor_assoc, xor_self, xor_zero_r}
 use Rattle.std.proofs.lemmas.Bool.{eqb-true}

@@ -7,7 +7,7 @@ use Rattle.std.proofs.lemmas.Bool.{eqb-true}
 use Rattle.field.specs.Meaning.{FieldLaws, reciprocal}
 use Rattle.field.specs.Modular.{times_modulo, modulo251}
 use Rattle.field.specs.Binary.{gate}
-use Rattle.field.specs.Computed.{all_below, at_each}
+use Rattle.field.specs.Computed.{at_each}
 use Rattle.field.specs.Reciprocal.{reciprocal_below, reciprocal_right, reciprocal_is}
 
 -- a remainder may be taken before a product or after it

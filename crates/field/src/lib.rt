@@ -1,4 +1,6 @@
 // Finite fields of at most 256 elements: an interface with a meaning and laws, and three fields that have them.
+#![tactic(auto)]
+
 ghost use Rattle.std.specs.Prelude.{◌≡◌};
 ghost use Rattle.field.specs.Meaning.{FieldMeaning, FieldLaws, answer, pair_answer, inverse_answer};
 

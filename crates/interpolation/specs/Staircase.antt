@@ -1,5 +1,5 @@
 -- Vectors over a field of numbers, and a staircase of them that solves linear equations.
-use Rattle.std.specs.Prelude.{◌≡◌, ℕ, zero, suc, ◌+◌, ◌*◌, ◌<◌, ◌≤◌, cond, List, [], ◌∷◌, length, take, drop, ◌==◌, slice_index}
+use Rattle.std.specs.Prelude.{◌≡◌, ℕ, zero, suc, ◌+◌, ◌*◌, ◌<◌, cond, List, [], ◌∷◌, length, take, drop, ◌==◌, slice_index}
 use Rattle.field.specs.Meaning.{FieldMeaning}
 use Rattle.bivariate.specs.Bivariate.{Elements}
 

@@ -1,4 +1,6 @@
 // Polynomials in two variables that are 0 at given points.
+#![tactic(auto)]
+
 mod equation;
 mod fault;
 mod points;

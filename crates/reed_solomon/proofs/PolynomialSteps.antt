@@ -1,6 +1,6 @@
 -- What the code works out of numbers, digits and values, one step at a time.
 -- Assumes nothing.
-use Rattle.std.proofs.Common.{◌≡◌, ℕ, suc, ◌+◌, ◌-◌, ◌*◌, ◌/◌, ◌%◌, ◌^◌, ◌<◌, ◌≤◌, true, cond, eqb, leb, get_or, Some, None, Option, sym, ap, ◌∙◌, subst, ap₂, mod-lt, mod-eq_of_lt, mul_comm, pow-suc, mul-div_cancel, add-one, arith}
+use Rattle.std.proofs.Common.{◌≡◌, ℕ, suc, ◌+◌, ◌-◌, ◌*◌, ◌/◌, ◌%◌, ◌^◌, ◌<◌, ◌≤◌, true, cond, leb, get_or, Some, None, Option, sym, ap, ◌∙◌, subst, ap₂, mod-lt, mod-eq_of_lt, mul_comm, pow-suc, mul-div_cancel, add-one, arith}
 use native.Mathlib.Nat.{one-le-pow, pow-le-pow_right}
 use Rattle.std.proofs.lemmas.Nat.{div_below}
 use Rattle.std.proofs.lemmas.Bool.{lt-leb, eqb-true, cond-false}

@@ -1,6 +1,6 @@
 -- The laws of the plain and of the doubly extended code.
 -- Assumes nothing.
-use Rattle.std.specs.Prelude.{◌≡◌, ℕ, zero, suc, ◌+◌, ◌-◌, ◌/◌, ◌%◌, ◌^◌, ◌<◌, ◌≤◌, Bool, true, false, cond, ◌⊎◌, List, [], ◌∷◌, ◌++◌, length, ◌==◌, slice_index, refl}
+use Rattle.std.specs.Prelude.{◌≡◌, ℕ, zero, suc, ◌+◌, ◌-◌, ◌/◌, ◌%◌, ◌^◌, ◌<◌, ◌≤◌, Bool, true, false, cond, ◌⊎◌, List, [], ◌∷◌, ◌++◌, length, ◌==◌, slice_index}
 use Rattle.std.proofs.Math.Path.{sym, ap, ap₂}
 use Rattle.std.proofs.Common.{◌∙◌, subst, inl, inr, mod-lt, add-one}
 use Rattle.std.proofs.Math.Logic.{⊎_elim}
@@ -9,8 +9,8 @@ use native.Mathlib.Omega.{arith}
 use Rattle.std.proofs.lemmas.Bool.{cases_lt, cases_eq, lt-ltb, le-ltb, ne_eqb, eqb-true, cond-true, cond-false, cond_both}
 use Rattle.field.specs.Meaning.{FieldMeaning, FieldLaws}
 use Rattle.field.specs.Polynomial.{value_at, agreements}
-use Rattle.field.proofs.Numbers.{Below, value_below, few_agreements, values_under_top}
-use Rattle.code.specs.Meaning.{CodeMeaning, CodeLaws, lone}
+use Rattle.field.proofs.Numbers.{value_below, few_agreements, values_under_top}
+use Rattle.code.specs.Meaning.{CodeLaws, lone}
 use Rattle.reed_solomon.specs.Polynomials.{digits, has_size}
 use Rattle.reed_solomon.specs.Plain.{plain, plain_of}
 use Rattle.reed_solomon.specs.DoublyExtended.{doubly_extended, extended_of}

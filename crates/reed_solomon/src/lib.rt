@@ -1,4 +1,6 @@
 // Reed-Solomon codes over any field: plain and doubly extended.
+#![tactic(auto)]
+
 mod doubly_extended;
 mod plain;
 mod polynomials;

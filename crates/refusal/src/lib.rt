@@ -1,4 +1,6 @@
 // Refusals: one type for every call that can refuse.
+#![tactic(auto)]
+
 ghost use Rattle.std.specs.Prelude.{◌≡◌, Some};
 ghost use Rattle.refusal.specs.Refusals.{number_of, place_of, layer_of, layer_name, reason_of, sentence};
 

@@ -1,5 +1,7 @@
 // Measures whole tables, and the decoding of words: what it worked out goes to standard output, and how long it took to
 // standard error.
+#![tactic(auto)]
+
 use code::{Code, Concatenation};
 use decoding::{Fault, agreement, find_roots, interpolate};
 use field::{Gf16, Gf256};

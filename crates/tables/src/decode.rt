@@ -68,7 +68,7 @@ fn terms(heap: Global, a: u8, q: &Interpolant) -> Result<Vec<Term>, AllocError> 
     Ok(terms)
 }
 
-fn write_term(text: &mut String, wide: bool, term: &Term) -> fmt::Result {
+fn write_term(text: &mut String, wide: bool, term: &Term) -> Result<(), AllocError> {
     let c = term.c;
     let g = term.g;
     let j = term.j;

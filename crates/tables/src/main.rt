@@ -1,4 +1,6 @@
 // Prints key tables, and what decoding finds: each line of standard input names a code, and users of it or a word.
+#![tactic(auto)]
+
 mod answer;
 mod decode;
 mod naming;

@@ -1,6 +1,6 @@
 // Key numbers in hexadecimal: one digit for each where they are below 16, else two.
 use crate::stop::Stop;
-use std::alloc::Global;
+use std::alloc::{AllocError, Global};
 use std::fmt;
 use std::fmt::Write;
 
@@ -74,7 +74,7 @@ pub(crate) fn read_numbers(heap: Global, wide: bool, text: &str) -> Result<Vec<u
     Ok(numbers)
 }
 
-pub(crate) fn write_number(text: &mut String, wide: bool, number: u8) -> fmt::Result {
+pub(crate) fn write_number(text: &mut String, wide: bool, number: u8) -> Result<(), AllocError> {
     if wide {
         write!(text, "{number:02x}")
     } else {

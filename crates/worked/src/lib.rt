@@ -1,4 +1,6 @@
 // The worked values of the documentation, each computed from the definitions by the proof of one call.
+#![tactic(auto)]
+
 ghost use Rattle.std.specs.Prelude.{◌≡◌, length};
 ghost use Rattle.worked.specs.Values.{worked_values, WorkedValuesHold};
 

@@ -1,4 +1,4 @@
-use Rattle.std.proofs.Common.{◌≡◌, ℕ, ◌+◌, ◌<◌, ◌≤◌, Bool, true, false, cond, sym, ap, ◌∙◌, arith}
+use Rattle.std.proofs.Common.{◌≡◌, ◌<◌, true, false, ◌∙◌, arith}
 use Rattle.code.specs.Counting.{agreements_next}
 use Rattle.code.specs.Symbols.{shared_counted, shared_few}
 use Rattle.code.proofs.shared_positions.Goals as goal

@@ -1,4 +1,4 @@
-use Rattle.std.proofs.Common.{◌≡◌, ℕ, sym, ◌∙◌, arith, rules}
+use Rattle.std.proofs.Common.{arith, rules}
 use Rattle.bivariate.proofs.ValueSteps.{value_none, value_more, value_refused}
 use Rattle.bivariate.proofs.values.value_at.Goals as goal
 

@@ -1,5 +1,5 @@
-use Rattle.std.proofs.Common.{◌≡◌, ℕ, suc, ◌+◌, ◌-◌, ◌*◌, ◌<◌, ◌≤◌, length, take, sym, ap, ◌∙◌, subst, arith}
-use Rattle.bivariate.specs.Grid.{grid, Weighted}
+use Rattle.std.proofs.Common.{ℕ, ◌-◌, ◌*◌, ◌<◌, ◌≤◌, length, take, sym, ◌∙◌, subst, arith}
+use Rattle.bivariate.specs.Grid.{grid}
 use Rattle.decoding.specs.Roots.{Told}
 use Rattle.decoding.proofs.Memory.{next_fits, deeper_fits, deeper_next, weighted_one, weighted_next, nonzero_from}
 use Rattle.decoding.proofs.Branches.{standing_none, standing_by, standing_same, chosen_fits, chosen_counted, path_length_below, path_below, found_length_below, branch_more, branch_over}

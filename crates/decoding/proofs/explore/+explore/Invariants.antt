@@ -1,4 +1,4 @@
-use Rattle.std.proofs.Common.{◌≡◌, ◌-◌, ◌*◌, ◌≤◌, length, take}
+use Rattle.std.proofs.Common.{◌≡◌, ◌-◌, ◌*◌, ◌≤◌, length}
 use Rattle.bivariate.specs.Grid.{grid}
 use Rattle.decoding.proofs.Branches.{Standing}
 use Rattle.decoding.proofs.explore.+explore.Given as goal

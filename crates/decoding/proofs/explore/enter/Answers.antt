@@ -1,4 +1,4 @@
-use Rattle.std.proofs.Common.{◌≡◌, sym, ◌∙◌, add-one, arith, rules}
+use Rattle.std.proofs.Common.{add-one, rules}
 use Rattle.decoding.proofs.Entries.{count_within, entered_within, entered_length, entered_front, entered_beyond}
 use Rattle.decoding.proofs.explore.enter.Goals as goal
 

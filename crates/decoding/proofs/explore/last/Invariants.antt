@@ -1,4 +1,4 @@
-use Rattle.std.proofs.Common.{◌≡◌, ◌≤◌}
+use Rattle.std.proofs.Common.{◌≤◌}
 use Rattle.bivariate.specs.Grid.{grid}
 use Rattle.decoding.proofs.Branches.{Standing}
 use Rattle.decoding.proofs.explore.last.Given as goal

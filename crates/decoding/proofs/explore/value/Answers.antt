@@ -1,4 +1,4 @@
-use Rattle.std.proofs.Common.{◌≡◌, sym, ◌∙◌, rules}
+use Rattle.std.proofs.Common.{rules}
 use Rattle.bivariate.proofs.ValueSteps.{value_answered}
 use Rattle.decoding.proofs.explore.value.Goals as goal
 

@@ -1,4 +1,4 @@
-use Rattle.std.proofs.Common.{◌≡◌, ℕ, ◌+◌, ◌-◌, ◌*◌, true, false, sym, ◌∙◌, arith}
+use Rattle.std.proofs.Common.{◌≡◌, ℕ, ◌+◌, ◌-◌, ◌*◌, ◌∙◌, arith}
 use Rattle.decoding.proofs.Entries.{group_end, part_elements, all_vanish, one_stays}
 use Rattle.decoding.proofs.explore.vanishes.Goals as goal
 

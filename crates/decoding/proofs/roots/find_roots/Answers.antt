@@ -1,8 +1,7 @@
-use Rattle.std.proofs.Common.{◌≡◌, ℕ, suc, ◌+◌, ◌*◌, ◌≤◌, length, take, sym, ap, ◌∙◌, subst, add-one, arith}
+use Rattle.std.proofs.Common.{ℕ, ◌≤◌, length, sym, ◌∙◌, subst}
 use Rattle.std.proofs.lemmas.Bool.{false≢true}
-use Rattle.bivariate.specs.Terms.{most_y}
 use Rattle.bivariate.proofs.WrittenFronts.{front_length, written_length}
-use Rattle.decoding.proofs.Found.{Accepted, accepted, never_full, roots_found, beyond}
+use Rattle.decoding.proofs.Found.{accepted, never_full, roots_found, beyond}
 use Rattle.decoding.proofs.roots.find_roots.Goals as goal
 
 pub run-requires : goal.run-requires

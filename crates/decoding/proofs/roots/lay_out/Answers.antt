@@ -1,4 +1,4 @@
-use Rattle.std.proofs.Common.{sym, ◌∙◌, arith}
+use Rattle.std.proofs.Common.{arith}
 use Rattle.bivariate.specs.Terms.{polynomial}
 use Rattle.decoding.proofs.Inputs.{laid_out}
 use Rattle.decoding.proofs.roots.lay_out.Goals as goal

@@ -1,4 +1,4 @@
-use Rattle.std.proofs.Common.{◌≡◌, ℕ, ◌+◌, ◌-◌, ◌*◌, ◌/◌, ◌≤◌, length, sym, ◌∙◌, arith}
+use Rattle.std.proofs.Common.{◌∙◌, arith}
 use Rattle.decoding.proofs.FirstStage.{stage_nonzero, few, next_elements, next_weighted, first_told}
 use Rattle.decoding.proofs.Memory.{stages_fit, none_counted}
 use Rattle.decoding.proofs.roots.run.Goals as goal

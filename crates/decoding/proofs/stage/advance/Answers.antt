@@ -1,5 +1,4 @@
-use Rattle.std.proofs.Common.{◌≡◌, ℕ, sym, ◌∙◌, subst}
-use Rattle.bivariate.specs.Bivariate.{Elements}
+use Rattle.std.proofs.Common.{sym, ◌∙◌, subst}
 use Rattle.decoding.specs.Stages.{Shifted}
 use Rattle.decoding.proofs.Advance.{still_nonzero, next_elements, next_weights, next_roots}
 use Rattle.decoding.proofs.stage.advance.Goals as goal

@@ -1,4 +1,4 @@
-use Rattle.decoding.proofs.Grids.{wide, power_below, power_divides, power_highest}
+use Rattle.decoding.proofs.Grids.{power_below, power_divides, power_highest}
 use Rattle.decoding.proofs.stage.highest_power.Goals as goal
 
 pub returns : goal.returns

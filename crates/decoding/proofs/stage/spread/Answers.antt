@@ -1,4 +1,4 @@
-use Rattle.std.proofs.Common.{◌-◌, ◌∙◌, arith, rules}
+use Rattle.std.proofs.Common.{◌-◌, arith, rules}
 use Rattle.decoding.proofs.Grids.{source_below, spread_more, spread-all}
 use Rattle.decoding.proofs.stage.spread.Goals as goal
 use Rattle.decoding.proofs.stage.spread.Goals.{then-g-j, else-g-j}

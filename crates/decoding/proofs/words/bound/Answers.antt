@@ -1,4 +1,4 @@
-use Rattle.std.proofs.Common.{ℕ, ◌+◌, ◌≤◌, sym, ◌∙◌, subst}
+use Rattle.std.proofs.Common.{ℕ, ◌+◌, ◌≤◌, sym, subst}
 use Rattle.bivariate.proofs.Degrees.{degree_bound_high}
 use Rattle.interpolation.proofs.Accepted.{bound_is, bound_low}
 use Rattle.decoding.proofs.words.bound.Goals as goal

@@ -1,6 +1,6 @@
-use Rattle.std.proofs.Common.{◌≡◌, length, sym, ◌∙◌, rules}
+use Rattle.std.proofs.Common.{length, ◌∙◌, rules}
 use Rattle.std.proofs.lemmas.Bool.{false≢true}
-use Rattle.decoding.proofs.Decodes.{Accepted, accepted, never_both, parts_fit, interpolates_on, finds_on, decoded}
+use Rattle.decoding.proofs.Decodes.{accepted, never_both, parts_fit, interpolates_on, finds_on, decoded}
 use Rattle.decoding.proofs.words.decode.Goals as goal
 
 pub returns-in_err-enough : goal.returns-in_err-enough

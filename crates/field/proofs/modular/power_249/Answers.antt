@@ -1,4 +1,3 @@
-use Rattle.std.proofs.Common.{◌≡◌, ◌%◌, ◌^◌, arith}
 use Rattle.field.specs.ModularLaws.{power_step, power-one}
 use Rattle.field.proofs.modular.power_249.Goals as goal
 
