@@ -3,7 +3,7 @@
 use Rattle.std.proofs.Common.{◌≡◌, ℕ, zero, suc, ◌<◌, ◌≤◌, ◌↔◌, List, [], ◌∷◌, map, length, get_or, sym, refl, ap, ◌∙◌, subst, ap₂, inl, inr, arith}
 use mathlib.Core.Path.{fst_path}
 use native.Mathlib.Decide.{dec_lt}
-use Rattle.std.specs.List.{AllByRecursion as All}
+use Rattle.std.specs.List.{AllByRecursion}
 use Rattle.std.proofs.lemmas.Bool.{cases_lt}
 use Rattle.std.proofs.lemmas.List.{get_or_past}
 use Rattle.std.proofs.ByRecursion.{All-get_or}
@@ -77,7 +77,7 @@ module _ (m : FieldMeaning) (laws : FieldLaws m) where
       sum-elements (poly_scale m c (b ∷ q)) (0 ∷ poly_product m f (b ∷ q)) (scale-elements c (b ∷ q) h.0 k)
       (zero_below, product-elements f (b ∷ q) h.1 k)
 
-  pub composed-elements : (Q : List (List ℕ)) (f : List ℕ) → All (Elements m) Q → Elements m f → Elements m (composed m Q f)
+  pub composed-elements : (Q : List (List ℕ)) (f : List ℕ) → AllByRecursion (Elements m) Q → Elements m f → Elements m (composed m Q f)
   composed-elements [] f h k = tt
   composed-elements (p ∷ Q) f h k =
       sum-elements p (poly_product m f (composed m Q f)) h.0 (product-elements f (composed m Q f) k (composed-elements Q f h.1 k))
@@ -124,7 +124,7 @@ module _ (m : FieldMeaning) (laws : FieldLaws m) where
       (zero_below, product-elements f (b ∷ q) h.1 k)
       ∙ ap₂ (plus F) (embed-scale c (b ∷ q) h.0 k) (ap₂ ◌∷◌ element-zero (embed-product f (b ∷ q) h.1 k))
 
-  pub embed-composed : (Q : List (List ℕ)) (f : List ℕ) → All (Elements m) Q → Elements m f
+  pub embed-composed : (Q : List (List ℕ)) (f : List ℕ) → AllByRecursion (Elements m) Q → Elements m f
       → map element (composed m Q f) ≡ compose F (map (map element) Q) (map element f)
   embed-composed [] f h k = refl
   embed-composed (p ∷ Q) f h k =
@@ -170,7 +170,7 @@ module _ (m : FieldMeaning) (laws : FieldLaws m) where
   co_zeros (a ∷ p) h z = (element_of_zero a h.0 (z 0), co_zeros p h.1 (λ n. z (suc n)))
 
   -- f is a root of Q if all coefficients at y = f are 0
-  pub root_sequences : (Q : List (List ℕ)) (f : List ℕ) → All (Elements m) Q → Elements m f
+  pub root_sequences : (Q : List (List ℕ)) (f : List ℕ) → AllByRecursion (Elements m) Q → Elements m f
       → Root m Q f ↔ ((n : ℕ) → value F (sequences F (map (map element) Q)) (map element f) n ≡ F.o)
   root_sequences Q f h k = (λ z n. sym (same n) ∙ zeros_co (composed m Q f) z n, λ z. co_zeros (composed m Q f) (composed-elements Q f h k) (λ n. same n ∙ z n))
     where
@@ -192,7 +192,7 @@ module _ (m : FieldMeaning) (laws : FieldLaws m) where
       (by_same F f (value-rows Q w (λ j. S (suc j)) f (omega arith) (λ j q u. h (suc j) q (omega arith))) n)
 
   -- and Q may be any rows with the same coefficients
-  pub root-rows : (Q : List (List ℕ)) (w : ℕ) (S : ℕ → ℕ → Element m laws) (f : List ℕ) → All (Elements m) Q → Elements m f → length Q ≤ w
+  pub root-rows : (Q : List (List ℕ)) (w : ℕ) (S : ℕ → ℕ → Element m laws) (f : List ℕ) → AllByRecursion (Elements m) Q → Elements m f → length Q ≤ w
       → ((j n : ℕ) → j < w → S j n ≡ element (coefficient Q n j))
       → Root m Q f ↔ ((n : ℕ) → value F (rows F w S) (map element f) n ≡ F.o)
   root-rows Q w S f h k l e =

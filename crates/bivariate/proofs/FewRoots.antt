@@ -1,7 +1,7 @@
 -- Over an abstract field: a polynomial in x and y with w powers of y that has w different roots in y is 0.
 -- Assumes nothing.
 use Rattle.std.proofs.Common.{◌≡◌, ℕ, zero, suc, ◌<◌, ◌≤◌, ◌⊎◌, List, [], ◌∷◌, length, sym, refl, ap, ◌∙◌, ap₂, inl, inr, arith}
-use Rattle.std.specs.List.{AllByRecursion as All}
+use Rattle.std.specs.List.{AllByRecursion}
 use Rattle.std.proofs.lemmas.Bool.{cases_lt}
 use Rattle.field.proofs.Abstract.{AbstractField, ring, add-zero, zero-add, add_cancel, mul_cancel, mul_comm}
 use Rattle.bivariate.proofs.Sequences.{up, by, value, by-add, by_zero, by_same, by-by}
@@ -114,7 +114,7 @@ module _ (F : AbstractField) where
   -- ---- as many roots as powers of y
 
   abbrev pub None : List (ℕ → E) → Type 0
-  None R = All (λ s. (n : ℕ) → s n ≡ o) R
+  None R = AllByRecursion (λ s. (n : ℕ) → s n ≡ o) R
 
   value_none : (R : List (ℕ → E)) (f : List E) → None R → (n : ℕ) → value F R f n ≡ o
   value_none [] f h n = refl
@@ -131,17 +131,17 @@ module _ (F : AbstractField) where
 
   abbrev pub Apart : List (List E) → Type 0
   Apart [] = Unit {0}
-  Apart (f ∷ fs) = All (λ g. ¬ (g ≡ f)) fs × Apart fs
+  Apart (f ∷ fs) = AllByRecursion (λ g. ¬ (g ≡ f)) fs × Apart fs
 
   quotients : (p : ℕ → E) (R : List (ℕ → E)) (f : List E) (k : ℕ) (fs : List (List E)) → length f ≡ k → ((n : ℕ) → value F (p ∷ R) f n ≡ o)
-      → All (λ g. ¬ (g ≡ f)) fs → All (λ g. length g ≡ k) fs → All (λ g. (n : ℕ) → value F (p ∷ R) g n ≡ o) fs
-      → All (λ g. (n : ℕ) → value F (quotient f R) g n ≡ o) fs
+      → AllByRecursion (λ g. ¬ (g ≡ f)) fs → AllByRecursion (λ g. length g ≡ k) fs → AllByRecursion (λ g. (n : ℕ) → value F (p ∷ R) g n ≡ o) fs
+      → AllByRecursion (λ g. (n : ℕ) → value F (quotient f R) g n ≡ o) fs
   quotients p R f k [] e z d l h = tt
   quotients p R f k (g ∷ fs) e z d l h =
       (root_quotient p R f g (l.0 ∙ sym e) d.0 z h.0, quotients p R f k fs e z d.1 l.1 h.1)
 
-  pub many_roots : (fs : List (List E)) (k : ℕ) (R : List (ℕ → E)) → Apart fs → All (λ g. length g ≡ k) fs
-      → All (λ g. (n : ℕ) → value F R g n ≡ o) fs → length R ≤ length fs → None R
+  pub many_roots : (fs : List (List E)) (k : ℕ) (R : List (ℕ → E)) → Apart fs → AllByRecursion (λ g. length g ≡ k) fs
+      → AllByRecursion (λ g. (n : ℕ) → value F R g n ≡ o) fs → length R ≤ length fs → None R
   many_roots fs k [] d l h u = tt
   many_roots [] k (p ∷ R) d l h u = absurd (omega arith)
   many_roots (f ∷ fs) k (p ∷ R) d l h u =

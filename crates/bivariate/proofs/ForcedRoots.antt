@@ -1,7 +1,7 @@
 -- What agrees with enough points is a root in y of all that interpolates them.
 -- Assumes nothing.
 use Rattle.std.proofs.Common.{◌≡◌, ℕ, zero, suc, ◌+◌, ◌<◌, ◌≤◌, Bool, true, false, cond, eqb, List, [], ◌∷◌, map, length, get_or, sym, refl, ap, ◌∙◌, ap₂, arith}
-use Rattle.std.specs.List.{AllByRecursion as All}
+use Rattle.std.specs.List.{AllByRecursion}
 use Rattle.std.proofs.lemmas.Bool.{eqb-true}
 use Rattle.field.specs.Meaning.{FieldMeaning, FieldLaws}
 use Rattle.field.specs.Polynomial.{value_at}
@@ -16,11 +16,11 @@ use Rattle.bivariate.proofs.Embedding.{element, element-zero, element_apart, ele
 -- no two points have the same x
 abbrev pub DistinctPlaces : List (ℕ × ℕ) → Type 0
 DistinctPlaces [] = Unit {0}
-DistinctPlaces (p ∷ ps) = All (λ r. ¬ (r.0 ≡ p.0)) ps × DistinctPlaces ps
+DistinctPlaces (p ∷ ps) = AllByRecursion (λ r. ¬ (r.0 ≡ p.0)) ps × DistinctPlaces ps
 
 -- ---- the points of a word
 
-places_apart : (x y : ℕ) (word : List ℕ) → x < y → All (λ r. ¬ (r.0 ≡ x)) (points_from y word)
+places_apart : (x y : ℕ) (word : List ℕ) → x < y → AllByRecursion (λ r. ¬ (r.0 ≡ x)) (points_from y word)
 places_apart x y [] l = tt
 places_apart x y (v ∷ word) l = ((λ e. omega arith), places_apart x (suc y) word (omega arith))
 
@@ -38,12 +38,12 @@ module _ (m : FieldMeaning) (laws : FieldLaws m) where
 
   -- ---- values at points
 
-  point_element : (Q : List (List ℕ)) (x y : ℕ) → All (Elements m) Q → x < m.size → y < m.size → point_value m Q x y < m.size
+  point_element : (Q : List (List ℕ)) (x y : ℕ) → AllByRecursion (Elements m) Q → x < m.size → y < m.size → point_value m Q x y < m.size
   point_element [] x y h k l = zero_below m laws
   point_element (p ∷ Q) x y h k l =
       laws.sum_closed _ _ (value-element m laws p x h.0 k) (laws.product_closed _ _ l (point_element Q x y h.1 k l))
 
-  embed_point : (Q : List (List ℕ)) (x y : ℕ) → All (Elements m) Q → x < m.size → y < m.size
+  embed_point : (Q : List (List ℕ)) (x y : ℕ) → AllByRecursion (Elements m) Q → x < m.size → y < m.size
       → element m laws (point_value m Q x y) ≡ at_point F (map (map (element m laws)) Q) (element m laws x) (element m laws y)
   embed_point [] x y h k l = element-zero m laws
   embed_point (p ∷ Q) x y h k l =
@@ -89,7 +89,7 @@ module _ (m : FieldMeaning) (laws : FieldLaws m) where
     places-length [] = refl
     places-length (p ∷ ps) = keep-length (agrees p) (element m laws p.0) (places ps) ∙ ap (λ (n : ℕ). cond (agrees p) 1 0 + n) (places-length ps)
 
-    places_other : (x : ℕ) (ps : List (ℕ × ℕ)) → x < m.size → PointsOf m ps → All (λ r. ¬ (r.0 ≡ x)) ps
+    places_other : (x : ℕ) (ps : List (ℕ × ℕ)) → x < m.size → PointsOf m ps → AllByRecursion (λ r. ¬ (r.0 ≡ x)) ps
         → Each F (λ y. ¬ (y ≡ element m laws x)) (places ps)
     places_other x [] l h k = tt
     places_other x (p ∷ ps) l h k =
@@ -101,8 +101,8 @@ module _ (m : FieldMeaning) (laws : FieldLaws m) where
     places_distinct (p ∷ ps) h k =
         keep_distinct (agrees p) (element m laws p.0) (places ps) (places_other p.0 ps h.0.0 h.1 k.0) (places_distinct ps h.1 k.1)
 
-    places-zero : (Q : List (List ℕ)) (ps : List (ℕ × ℕ)) → Elements m f → All (Elements m) Q → PointsOf m ps
-        → All (λ p. point_value m Q p.0 p.1 ≡ 0) ps
+    places-zero : (Q : List (List ℕ)) (ps : List (ℕ × ℕ)) → Elements m f → AllByRecursion (Elements m) Q → PointsOf m ps
+        → AllByRecursion (λ p. point_value m Q p.0 p.1 ≡ 0) ps
         → Each F (λ x. at_point F (map (map (element m laws)) Q) x (eval F (map (element m laws) f) x) ≡ F.o) (places ps)
     places-zero Q [] k hq h z = tt
     places-zero Q (p ∷ ps) k hq h z =

@@ -2,7 +2,7 @@
 -- Assumes nothing.
 use Rattle.std.proofs.Common.{◌≡◌, ℕ, zero, suc, ◌+◌, ◌-◌, ◌*◌, ◌<◌, ◌≤◌, ◌⊎◌, ◌↔◌, List, [], ◌∷◌, map, length, get_or, drop, sym, refl, ap, ◌∙◌, subst, ap₂, inl, inr, arith}
 use native.Mathlib.Decide.{ℕ_discrete}
-use Rattle.std.specs.List.{range_with_len, AllByRecursion as All}
+use Rattle.std.specs.List.{range_with_len, AllByRecursion}
 use Rattle.std.proofs.lemmas.Bool.{cases_lt}
 use Rattle.std.proofs.lemmas.List.{get_or_past, get_or-take, get_or-drop, length-take-le, length-drop, length-map}
 use Rattle.std.proofs.ByRecursion.{All-get_or, All-map, All-take, All-drop}
@@ -38,7 +38,7 @@ coefficient_out w d cs g j h k =
     ap (λ (row : List ℕ). get_or row g 0) (get_or-map-range_with_len (grid_row w d cs) 0 w j j [] k (omega arith))
     ∙ get_or_past (grid_row w d cs j) g 0 (omega (arith, length-map-range_with_len (λ (q : ℕ). cell w cs q j) 0 d))
 
-each : {X : Type 0} (P : X → Type 0) → ((x : X) → P x) → (xs : List X) → All P xs
+each : {X : Type 0} (P : X → Type 0) → ((x : X) → P x) → (xs : List X) → AllByRecursion P xs
 each P h [] = tt
 each P h (x ∷ xs) = (h x, each P h xs)
 
@@ -71,20 +71,20 @@ in_row (a ∷ p) = on (ℕ_discrete a 0) (in_row p)
 abbrev Filled : List (List ℕ) → Type 0
 Filled Q = (g : ℕ) × (j : ℕ) × (j < length Q) × (g < length (get_or Q j [])) × ¬ (coefficient Q g j ≡ 0)
 
-in_rows : (Q : List (List ℕ)) → All Zeros Q ⊎ Filled Q
+in_rows : (Q : List (List ℕ)) → AllByRecursion Zeros Q ⊎ Filled Q
 in_rows [] = inl tt
 in_rows (p ∷ Q) = on (in_row p) (in_rows Q)
   where
-    on : Zeros p ⊎ ((g : ℕ) × (g < length p) × ¬ (get_or p g 0 ≡ 0)) → All Zeros Q ⊎ Filled Q → All Zeros (p ∷ Q) ⊎ Filled (p ∷ Q)
+    on : Zeros p ⊎ ((g : ℕ) × (g < length p) × ¬ (get_or p g 0 ≡ 0)) → AllByRecursion Zeros Q ⊎ Filled Q → AllByRecursion Zeros (p ∷ Q) ⊎ Filled (p ∷ Q)
     on (inr t) d = inr (t.0, 0, omega arith, t.1, t.2)
     on (inl z) (inl y) = inl (z, y)
     on (inl z) (inr t) = inr (t.0, suc t.1, omega (arith, t.2), t.3, t.4)
 
-pub nonzero_laid_out : (w d : ℕ) (cs : List ℕ) (Q : List (List ℕ)) → length Q ≤ w → All (λ row. length row ≤ d) Q
-    → ((g j : ℕ) → g < d → j < w → cell w cs g j ≡ coefficient Q g j) → ¬ (All Zeros Q) → Nonzero w d cs
+pub nonzero_laid_out : (w d : ℕ) (cs : List ℕ) (Q : List (List ℕ)) → length Q ≤ w → AllByRecursion (λ row. length row ≤ d) Q
+    → ((g j : ℕ) → g < d → j < w → cell w cs g j ≡ coefficient Q g j) → ¬ (AllByRecursion Zeros Q) → Nonzero w d cs
 nonzero_laid_out w d cs Q l t s n = on (in_rows Q)
   where
-    on : All Zeros Q ⊎ Filled Q → Nonzero w d cs
+    on : AllByRecursion Zeros Q ⊎ Filled Q → Nonzero w d cs
     on (inl z) = absurd (n z)
     on (inr u) =
         let a : u.0 < d = omega (arith, u.3, All-get_or (λ row. length row ≤ d) Q u.1 [] u.2 t) in
@@ -113,7 +113,7 @@ module _ (m : FieldMeaning) (laws : FieldLaws m) where
         | inr h ↦ ap (element m laws) (coefficient_out w d cs n j h k) ∙ element-zero m laws
       ]
 
-  pub grid-elements : (w d : ℕ) (cs : List ℕ) → Elements m cs → All (Elements m) (grid w d cs)
+  pub grid-elements : (w d : ℕ) (cs : List ℕ) → Elements m cs → AllByRecursion (Elements m) (grid w d cs)
   grid-elements w d cs h =
       All-map (Elements m) (grid_row w d cs) (range_with_len 0 w)
       (each (λ j. Elements m (grid_row w d cs j))
@@ -263,8 +263,8 @@ module _ (m : FieldMeaning) (laws : FieldLaws m) where
 
   -- ---- another layout of the same polynomial
 
-  pub root_laid_out : (w d : ℕ) (cs : List ℕ) (Q : List (List ℕ)) (f : List ℕ) → Elements m cs → All (Elements m) Q → Elements m f
-      → length Q ≤ w → All (λ row. length row ≤ d) Q → ((g j : ℕ) → g < d → j < w → cell w cs g j ≡ coefficient Q g j)
+  pub root_laid_out : (w d : ℕ) (cs : List ℕ) (Q : List (List ℕ)) (f : List ℕ) → Elements m cs → AllByRecursion (Elements m) Q → Elements m f
+      → length Q ≤ w → AllByRecursion (λ row. length row ≤ d) Q → ((g j : ℕ) → g < d → j < w → cell w cs g j ≡ coefficient Q g j)
       → Root m Q f ↔ Root m (grid w d cs) f
   root_laid_out w d cs Q f h hq k l t s = (λ z. after.1 (before.0 z), λ z. before.1 (after.0 z))
     where
@@ -351,22 +351,22 @@ module _ (m : FieldMeaning) (laws : FieldLaws m) where
   number-embed [] h = refl
   number-embed (c ∷ f) h = ap₂ ◌∷◌ (element-number m laws c h.0) (number-embed f h.1)
 
-  embed_other : (f : List ℕ) (fs : List (List ℕ)) → Elements m f → All (Elements m) fs → All (λ g. ¬ (g ≡ f)) fs
-      → All (λ g. ¬ (g ≡ embed f)) (map embed fs)
+  embed_other : (f : List ℕ) (fs : List (List ℕ)) → Elements m f → AllByRecursion (Elements m) fs → AllByRecursion (λ g. ¬ (g ≡ f)) fs
+      → AllByRecursion (λ g. ¬ (g ≡ embed f)) (map embed fs)
   embed_other f [] h k n = tt
   embed_other f (g ∷ fs) h k n =
       ((λ e. n.0 (sym (number-embed g k.0) ∙ ap (map (λ (u : Element m laws). u.0)) e ∙ number-embed f h)), embed_other f fs h k.1 n.1)
 
-  embed_distinct : (fs : List (List ℕ)) → All (Elements m) fs → Distinct fs → Apart F (map embed fs)
+  embed_distinct : (fs : List (List ℕ)) → AllByRecursion (Elements m) fs → Distinct fs → Apart F (map embed fs)
   embed_distinct [] h n = tt
   embed_distinct (f ∷ fs) h n = (embed_other f fs h.0 h.1 n.0, embed_distinct fs h.1 n.1)
 
-  embed_lengths : (k : ℕ) (fs : List (List ℕ)) → All (λ f. length f ≡ k) fs → All (λ g. length g ≡ k) (map embed fs)
+  embed_lengths : (k : ℕ) (fs : List (List ℕ)) → AllByRecursion (λ f. length f ≡ k) fs → AllByRecursion (λ g. length g ≡ k) (map embed fs)
   embed_lengths k [] h = tt
   embed_lengths k (f ∷ fs) h = (length-map f (element m laws) ∙ h.0, embed_lengths k fs h.1)
 
-  embed_roots : (w d : ℕ) (cs : List ℕ) (fs : List (List ℕ)) → Elements m cs → All (Elements m) fs → All (Root m (grid w d cs)) fs
-      → All (λ g. (n : ℕ) → value F (rows F w (cells w d cs)) g n ≡ F.o) (map embed fs)
+  embed_roots : (w d : ℕ) (cs : List ℕ) (fs : List (List ℕ)) → Elements m cs → AllByRecursion (Elements m) fs → AllByRecursion (Root m (grid w d cs)) fs
+      → AllByRecursion (λ g. (n : ℕ) → value F (rows F w (cells w d cs)) g n ≡ F.o) (map embed fs)
   embed_roots w d cs [] h k r = tt
   embed_roots w d cs (f ∷ fs) h k r = ((root_cells w d cs f h k.0).0 r.0, embed_roots w d cs fs h k.1 r.1)
 
@@ -376,8 +376,8 @@ module _ (m : FieldMeaning) (laws : FieldLaws m) where
   rows_none (suc w) S h (suc j) n l = rows_none w (λ q. S (suc q)) h.1 j n (omega arith)
 
   -- w powers of y leave room for w - 1 roots of one length
-  pub few_roots : (w d k : ℕ) (cs : List ℕ) (fs : List (List ℕ)) → Elements m cs → All (Elements m) fs → All (λ f. length f ≡ k) fs
-      → All (Root m (grid w d cs)) fs → Distinct fs → Nonzero w d cs → length fs < w
+  pub few_roots : (w d k : ℕ) (cs : List ℕ) (fs : List (List ℕ)) → Elements m cs → AllByRecursion (Elements m) fs → AllByRecursion (λ f. length f ≡ k) fs
+      → AllByRecursion (Root m (grid w d cs)) fs → Distinct fs → Nonzero w d cs → length fs < w
   few_roots w d k cs fs h hf l r n z = elim (cases_lt (length fs) w) [ inl u ↦ u | inr u ↦ absurd (z.4 (gone u)) ]
     where
       gone : w ≤ length fs → cell w cs z.0 z.1 ≡ 0

@@ -1,17 +1,17 @@
 -- Polynomials in x and y over a field of numbers.
 -- A polynomial in x is the list of its coefficients, lowest first. One in x and y is the list of its coefficients by powers of y, lowest first, each a polynomial in x.
 use Rattle.std.specs.Prelude.{◌≡◌, ℕ, suc, ◌+◌, ◌*◌, ◌<◌, ◌≤◌, cond, List, [], ◌∷◌, length, ◌==◌, slice_index, slice_index_or}
-use Rattle.std.specs.List.{AllByRecursion as All}
+use Rattle.std.specs.List.{AllByRecursion}
 use Rattle.field.specs.Meaning.{FieldMeaning}
 use Rattle.field.specs.Polynomial.{value_at}
 
 -- each number is an element
 abbrev pub Elements : FieldMeaning → List ℕ → Type 0
-Elements m cs = All (λ c. c < m.size) cs
+Elements m cs = AllByRecursion (λ c. c < m.size) cs
 
 -- each coefficient is 0
 abbrev pub Zeros : List ℕ → Type 0
-Zeros p = All (λ c. c ≡ 0) p
+Zeros p = AllByRecursion (λ c. c ≡ 0) p
 
 -- ---- sums and products of polynomials in x
 
@@ -49,7 +49,7 @@ Root m Q f = Zeros (composed m Q f)
 -- no two of the polynomials are the same list
 abbrev pub Distinct : List (List ℕ) → Type 0
 Distinct [] = Unit {0}
-Distinct (f ∷ fs) = All (λ g. ¬ (g ≡ f)) fs × Distinct fs
+Distinct (f ∷ fs) = AllByRecursion (λ g. ¬ (g ≡ f)) fs × Distinct fs
 
 -- the coefficient of x^g·y^j
 abbrev pub coefficient : List (List ℕ) → ℕ → ℕ → ℕ
@@ -64,7 +64,7 @@ agreement m f (p ∷ ps) = cond (value_at m f p.0 == p.1) 1 0 + agreement m f ps
 
 -- the points are pairs of elements
 abbrev pub PointsOf : FieldMeaning → List (ℕ × ℕ) → Type 0
-PointsOf m ps = All (λ p. (p.0 < m.size) × (p.1 < m.size)) ps
+PointsOf m ps = AllByRecursion (λ p. (p.0 < m.size) × (p.1 < m.size)) ps
 
 -- the points of a word: the number at a position, over the element of the position's number, counted from x on
 abbrev pub points_from : ℕ → List ℕ → List (ℕ × ℕ)
@@ -73,10 +73,10 @@ points_from x (y ∷ ys) = (x, y) ∷ points_from (suc x) ys
 
 -- Q interpolates the points with terms x^g·y^j of g + a·j < d: it is not 0, has no other terms, and is 0 at each point.
 pub record Interpolates (m : FieldMeaning) (a d : ℕ) (points : List (ℕ × ℕ)) (Q : List (List ℕ)) : Type 0 where
-  pub elements : All (Elements m) Q
-  pub nonzero : ¬ (All Zeros Q)
+  pub elements : AllByRecursion (Elements m) Q
+  pub nonzero : ¬ (AllByRecursion Zeros Q)
   pub weighted : (g j : ℕ) → d ≤ g + a * j → coefficient Q g j ≡ 0
-  pub vanishes : All (λ p. point_value m Q p.0 p.1 ≡ 0) points
+  pub vanishes : AllByRecursion (λ p. point_value m Q p.0 p.1 ≡ 0) points
 
 -- Where f, with at most a + 1 coefficients, agrees with d or more of the points, it is a root of all that interpolates them.
 abbrev pub AgreementForcesRoot : FieldMeaning → List (ℕ × ℕ) → List ℕ → Type 0

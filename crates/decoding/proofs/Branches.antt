@@ -2,7 +2,7 @@
 -- Assumes nothing.
 use Rattle.std.proofs.Common.{◌≡◌, ℕ, suc, ◌+◌, ◌-◌, ◌*◌, ◌<◌, ◌≤◌, ◌↔◌, List, [], ◌∷◌, ◌++◌, map, length, get_or, take, drop, set, Some, None, sym, refl, ap, ◌∙◌, subst, ap₂, add-mul, arith}
 use native.Mathlib.Decide.{ℕ_discrete}
-use Rattle.std.specs.List.{ContainsAt as Has, flat_map, AllByRecursion as All}
+use Rattle.std.specs.List.{ContainsAt, flat_map, AllByRecursion}
 use Rattle.std.proofs.ByRecursion.{All-append, All-map, All-weaker, has_append_left, has_append_right}
 use Rattle.std.proofs.lemmas.List.{append_assoc, append-nil, length-append, length-map, get_or-map, take_more_set, take_all, take-take, take-set-le, drop-drop, length-set}
 use Rattle.field.specs.Meaning.{FieldMeaning, FieldLaws}
@@ -21,11 +21,11 @@ distinct_onto c (g ∷ gs) h = (
   distinct_onto c gs h.1,
 )
 
-distinct_append : (fs gs : List (List ℕ)) → Distinct fs → Distinct gs → All (λ f. All (λ g. ¬ (g ≡ f)) gs) fs → Distinct (fs ++ gs)
+distinct_append : (fs gs : List (List ℕ)) → Distinct fs → Distinct gs → AllByRecursion (λ f. AllByRecursion (λ g. ¬ (g ≡ f)) gs) fs → Distinct (fs ++ gs)
 distinct_append [] gs h k a = k
 distinct_append (f ∷ fs) gs h k a = (All-append (λ g. ¬ (g ≡ f)) fs gs h.0 a.0, distinct_append fs gs h.1 k a.1)
 
-has_onto : (c : ℕ) (gs : List (List ℕ)) (g : List ℕ) → Has gs g → Has (map (λ f. c ∷ f) gs) (c ∷ g)
+has_onto : (c : ℕ) (gs : List (List ℕ)) (g : List ℕ) → ContainsAt gs g → ContainsAt (map (λ f. c ∷ f) gs) (c ∷ g)
 has_onto c gs g h =
     (h.0, omega (arith, length-map gs (λ (f : List ℕ). c ∷ f), h.1), λ d. get_or-map (λ (f : List ℕ). c ∷ f) gs h.0 [] d h.1 ∙ ap (λ (f : List ℕ). c ∷ f) (h.2 []))
 
@@ -42,8 +42,8 @@ joined_onto chosen c (g ∷ gs) = ap₂ (λ (u v : List ℕ). u ++ v) (sym (appe
 
 -- gs lists what can follow c in a root: these alone, all of them, and each once
 pub record Continuations (m : FieldMeaning) (Q : List (List ℕ)) (k c : ℕ) (gs : List (List ℕ)) : Type 0 where
-  pub alone : All (λ g. (length g ≡ k) × Elements m g × Root m Q (c ∷ g)) gs
-  pub complete : (g : List ℕ) → length g ≡ k → Elements m g → Root m Q (c ∷ g) → Has gs g
+  pub alone : AllByRecursion (λ g. (length g ≡ k) × Elements m g × Root m Q (c ∷ g)) gs
+  pub complete : (g : List ℕ) → length g ≡ k → Elements m g → Root m Q (c ∷ g) → ContainsAt gs g
   pub once : Distinct gs
 
 -- what was told of the roots whose first coefficient is below c
@@ -71,15 +71,15 @@ module _ (m : FieldMeaning) (Q : List (List ℕ)) (left : ℕ) (first : 1 ≤ le
   whole_root : (c : ℕ) (g : List ℕ) → c < m.size → (length g ≡ left - 1) × Elements m g × Root m Q (c ∷ g) → RootWith m Q left (c ∷ g)
   whole_root c g h r = record { coefficients = omega (arith, r.0); elements = (h, r.1); root = r.2 }
 
-  apart : (c : ℕ) (fs gs : List (List ℕ)) → All (λ f. RootWith m Q left f × (get_or f 0 0 < c)) fs → All (λ f. All (λ g. ¬ (g ≡ f)) (map (λ g. c ∷ g) gs)) fs
+  apart : (c : ℕ) (fs gs : List (List ℕ)) → AllByRecursion (λ f. RootWith m Q left f × (get_or f 0 0 < c)) fs → AllByRecursion (λ f. AllByRecursion (λ g. ¬ (g ≡ f)) (map (λ g. c ∷ g) gs)) fs
   apart c fs gs =
-      All-weaker (λ f. RootWith m Q left f × (get_or f 0 0 < c)) (λ f. All (λ g. ¬ (g ≡ f)) (map (λ g. c ∷ g) gs)) (λ f r. other f r.1 gs) fs
+      All-weaker (λ f. RootWith m Q left f × (get_or f 0 0 < c)) (λ f. AllByRecursion (λ g. ¬ (g ≡ f)) (map (λ g. c ∷ g) gs)) (λ f r. other f r.1 gs) fs
     where
-      other : (f : List ℕ) → get_or f 0 0 < c → (gs : List (List ℕ)) → All (λ g. ¬ (g ≡ f)) (map (λ g. c ∷ g) gs)
+      other : (f : List ℕ) → get_or f 0 0 < c → (gs : List (List ℕ)) → AllByRecursion (λ g. ¬ (g ≡ f)) (map (λ g. c ∷ g) gs)
       other f l [] = tt
       other f l (g ∷ gs) = ((λ e. let k : c ≡ get_or f 0 0 = ap (λ (h : List ℕ). get_or h 0 0) e in absurd (omega arith)), other f l gs)
 
-  below_more : (c : ℕ) (fs : List (List ℕ)) → All (λ f. RootWith m Q left f × (get_or f 0 0 < c)) fs → All (λ f. RootWith m Q left f × (get_or f 0 0 < c + 1)) fs
+  below_more : (c : ℕ) (fs : List (List ℕ)) → AllByRecursion (λ f. RootWith m Q left f × (get_or f 0 0 < c)) fs → AllByRecursion (λ f. RootWith m Q left f × (get_or f 0 0 < c + 1)) fs
   below_more c fs =
       All-weaker (λ f. RootWith m Q left f × (get_or f 0 0 < c)) (λ f. RootWith m Q left f × (get_or f 0 0 < c + 1)) (λ f r. (r.0, omega (arith, r.1))) fs
 
@@ -90,7 +90,7 @@ module _ (m : FieldMeaning) (Q : List (List ℕ)) (left : ℕ) (first : 1 ≤ le
     pub roots_same : ((g : List ℕ) → length g ≡ left - 1 → Elements m g → Root m Q (c ∷ g) → ⊥) → RootsBelow m Q left (c + 1) fs
     roots_same none = record { alone = below_more c fs roots.alone; complete = λ f r l. by f r l (ℕ_discrete (get_or f 0 0) c); once = roots.once }
       where
-        by : (f : List ℕ) → RootWith m Q left f → get_or f 0 0 < c + 1 → Dec (get_or f 0 0 ≡ c) → Has fs f
+        by : (f : List ℕ) → RootWith m Q left f → get_or f 0 0 < c + 1 → Dec (get_or f 0 0 ≡ c) → ContainsAt fs f
         by f r l (yes e) = let t = rest_root c f r (follows c f r e) in absurd (none (drop 1 f) t.0 t.1 t.2)
         by f r l (no n) = roots.complete f r (omega arith)
 
@@ -104,16 +104,16 @@ module _ (m : FieldMeaning) (Q : List (List ℕ)) (left : ℕ) (first : 1 ≤ le
       once = distinct_append fs (map (λ g. c ∷ g) gs) roots.once (distinct_onto c gs next.once) (apart c fs gs roots.alone);
     }
       where
-        by : (f : List ℕ) → RootWith m Q left f → get_or f 0 0 < c + 1 → Dec (get_or f 0 0 ≡ c) → Has (fs ++ map (λ g. c ∷ g) gs) f
+        by : (f : List ℕ) → RootWith m Q left f → get_or f 0 0 < c + 1 → Dec (get_or f 0 0 ≡ c) → ContainsAt (fs ++ map (λ g. c ∷ g) gs) f
         by f r l (yes e) =
             let is : f ≡ c ∷ drop 1 f = follows c f r e in
             let t = rest_root c f r is in
-            subst (Has (fs ++ map (λ g. c ∷ g) gs)) (sym is)
+            subst (ContainsAt (fs ++ map (λ g. c ∷ g) gs)) (sym is)
             (has_append_right fs (map (λ g. c ∷ g) gs) (c ∷ drop 1 f) (has_onto c gs (drop 1 f) (next.complete (drop 1 f) t.0 t.1 t.2)))
         by f r l (no n) = has_append_left fs (map (λ g. c ∷ g) gs) f (roots.complete f r (omega arith))
 
     pub roots_too_many : (k count total : ℕ) (before now : List ℕ) (gs : List (List ℕ)) → length now ≡ length before → total ≡ count + length fs
-        → All (λ g. (length g ≡ left - 1) × Elements m g × Root m Q (c ∷ g)) gs → Distinct gs → length now < (total + length gs) * k
+        → AllByRecursion (λ g. (length g ≡ left - 1) × Elements m g × Root m Q (c ∷ g)) gs → Distinct gs → length now < (total + length gs) * k
         → TooMany m Q left k count before
     roots_too_many k count total before now gs same told alone once over = (
       fs ++ map (λ g. c ∷ g) gs,
@@ -221,7 +221,7 @@ module _ (m : FieldMeaning) (Q : List (List ℕ)) (left : ℕ) (first : 1 ≤ le
           );
         }
 
-    pub standing_over : (gs : List (List ℕ)) → All (λ g. (length g ≡ left - 1) × Elements m g × Root m Q (c ∷ g)) gs → Distinct gs
+    pub standing_over : (gs : List (List ℕ)) → AllByRecursion (λ g. (length g ≡ left - 1) × Elements m g × Root m Q (c ∷ g)) gs → Distinct gs
         → length found < (total + length gs) * length path₀ → TooMany m Q left (length path₀) count found₀
     standing_over gs alone once over =
         let p = state.progress in
@@ -261,7 +261,7 @@ module _ (m : FieldMeaning) (Q : List (List ℕ)) (path₀ found₀ : List ℕ) 
   pub last_path : take (length path₀ - 1) entry ≡ take (length path₀ - 1) path₀
   last_path = take-set-le (length path₀ - 1) path (length path₀ - 1) c (omega arith) ∙ state.chosen
 
-  alone_empty : Root m Q (c ∷ []) → All (λ g. (length g ≡ 1 - 1) × Elements m g × Root m Q (c ∷ g)) ([] ∷ [])
+  alone_empty : Root m Q (c ∷ []) → AllByRecursion (λ g. (length g ≡ 1 - 1) × Elements m g × Root m Q (c ∷ g)) ([] ∷ [])
   alone_empty r = ((omega arith, tt, r), tt)
 
   pub last_more : Root m Q (c ∷ []) → (more : ℕ) (found' : List ℕ) → length found' ≡ length found → more ≡ suc total → more * length entry ≤ length found
@@ -296,7 +296,7 @@ module _ (m : FieldMeaning) (laws : FieldLaws m) (Q Q' : List (List ℕ)) (left 
   below_first [] h = omega (arith, laws.size_low)
   below_first (x ∷ g) h = h.0
 
-  alone_below : (gs : List (List ℕ)) → All (RootWith m Q' (left - 1)) gs → All (λ g. (length g ≡ left - 1) × Elements m g × Root m Q (c ∷ g)) gs
+  alone_below : (gs : List (List ℕ)) → AllByRecursion (RootWith m Q' (left - 1)) gs → AllByRecursion (λ g. (length g ≡ left - 1) × Elements m g × Root m Q (c ∷ g)) gs
   alone_below =
       All-weaker (RootWith m Q' (left - 1)) (λ g. (length g ≡ left - 1) × Elements m g × Root m Q (c ∷ g))
       (λ g r. (r.coefficients, r.elements, (roots g r.elements).1 r.root))

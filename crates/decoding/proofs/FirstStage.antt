@@ -1,7 +1,7 @@
 -- The first stage of the search: the polynomial laid out in a grid and divided by a power of x.
 -- Assumes nothing.
 use Rattle.std.proofs.Common.{◌≡◌, ℕ, zero, suc, ◌+◌, ◌-◌, ◌*◌, ◌/◌, ◌<◌, ◌≤◌, ◌↔◌, List, [], ◌∷◌, length, get_or, take, drop, Some, None, Option, sym, refl, ap, ◌∙◌, subst, add-one, arith}
-use Rattle.std.specs.List.{AllByRecursion as All}
+use Rattle.std.specs.List.{AllByRecursion}
 use Rattle.std.proofs.ByRecursion.{All-weaker}
 use Rattle.std.proofs.lemmas.List.{length-take}
 use Rattle.field.specs.Meaning.{FieldMeaning, FieldLaws}
@@ -20,7 +20,7 @@ by_powers-length : (a d k : ℕ) (cs : List ℕ) → length (by_powers a d k cs)
 by_powers-length a d zero cs = refl
 by_powers-length a d (suc k) cs = ap suc (by_powers-length a (d - a) k (drop d cs))
 
-by_powers_short : (a d e k : ℕ) (cs : List ℕ) → e ≤ d → All (λ row. length row ≤ d) (by_powers a e k cs)
+by_powers_short : (a d e k : ℕ) (cs : List ℕ) → e ≤ d → AllByRecursion (λ row. length row ≤ d) (by_powers a e k cs)
 by_powers_short a d e zero cs h = tt
 by_powers_short a d e (suc k) cs h = (omega (arith, length-take e cs), by_powers_short a d (e - a) k (drop e cs) (omega arith))
 
@@ -29,7 +29,7 @@ row-element m laws [] g h = omega (arith, laws.size_low)
 row-element m laws (c ∷ row) zero h = h.0
 row-element m laws (c ∷ row) (suc g) h = row-element m laws row g h.1
 
-coefficient-element : (m : FieldMeaning) → FieldLaws m → (Q : List (List ℕ)) (g j : ℕ) → All (Elements m) Q → coefficient Q g j < m.size
+coefficient-element : (m : FieldMeaning) → FieldLaws m → (Q : List (List ℕ)) (g j : ℕ) → AllByRecursion (Elements m) Q → coefficient Q g j < m.size
 coefficient-element m laws [] g j h = omega (arith, laws.size_low)
 coefficient-element m laws (row ∷ Q) g zero h = row-element m laws row g h.0
 coefficient-element m laws (row ∷ Q) g (suc j) h = coefficient-element m laws Q g j h.1
@@ -71,10 +71,10 @@ module _ (m : FieldMeaning) (laws : FieldLaws m) (a d : ℕ) (cs : List ℕ) (we
     rows : length Q ≤ w
     rows = omega (arith, by_powers-length a d (suc (most_y a d)) cs)
 
-    short : All (λ row. length row ≤ d) Q
+    short : AllByRecursion (λ row. length row ≤ d) Q
     short = by_powers_short a d d (suc (most_y a d)) cs (omega arith)
 
-    q_elements : All (Elements m) Q
+    q_elements : AllByRecursion (Elements m) Q
     q_elements = polynomial-elements m a d cs elements
 
     stage_elements : Elements m stage
@@ -90,7 +90,7 @@ module _ (m : FieldMeaning) (laws : FieldLaws m) (a d : ℕ) (cs : List ℕ) (we
     stage_roots : (f : List ℕ) → Elements m f → Root m Q f ↔ Root m (grid w d stage) f
     stage_roots f h = root_laid_out m laws w d stage Q f stage_elements q_elements h rows short cells
 
-    pub few : (fs : List (List ℕ)) → All (RootWith m Q (suc a)) fs → Distinct fs → length fs ≤ most_y a d
+    pub few : (fs : List (List ℕ)) → AllByRecursion (RootWith m Q (suc a)) fs → Distinct fs → length fs ≤ most_y a d
     few fs roots once =
         let l : length fs < w =
         few_roots m laws w d (suc a) stage fs stage_elements

@@ -1,7 +1,7 @@
 -- What is known where the search does not refuse, and what then stands in the memory for the roots.
 -- Assumes nothing.
 use Rattle.std.proofs.Common.{◌≡◌, ℕ, suc, ◌+◌, ◌-◌, ◌*◌, ◌<◌, ◌≤◌, leb, List, [], ◌∷◌, ◌++◌, length, get_or, take, drop, Some, None, sym, refl, ap, ◌∙◌, subst, ap₂, mul-le-mul_right, suc-mul, zero-mul, arith}
-use Rattle.std.specs.List.{flat_map, AllByRecursion as All}
+use Rattle.std.specs.List.{flat_map, AllByRecursion}
 use Rattle.std.proofs.ByRecursion.{All-weaker}
 use Rattle.std.proofs.lemmas.List.{take-take, take_at, take-append-le, drop_at, drop-take, drop-append-le, take-append-drop}
 use Rattle.std.proofs.lemmas.Bool.{not-false, and_parts, leb-true, ltb-false}
@@ -50,7 +50,7 @@ accepted m a d cs room memory h =
 
 -- ---- what was entered, taken apart
 
-split_pieces : (k : ℕ) (fs : List (List ℕ)) (l : List ℕ) → All (λ f. length f ≡ k) fs → take (length fs * k) l ≡ flat_map (λ f. [] ++ f) fs → pieces k (length fs) l ≡ fs
+split_pieces : (k : ℕ) (fs : List (List ℕ)) (l : List ℕ) → AllByRecursion (λ f. length f ≡ k) fs → take (length fs * k) l ≡ flat_map (λ f. [] ++ f) fs → pieces k (length fs) l ≡ fs
 split_pieces k [] l h e = refl
 split_pieces k (f ∷ fs) l h e =
     let size : suc (length fs) * k ≡ k + length fs * k = omega (arith, suc-mul (length fs) k) in
@@ -61,7 +61,7 @@ split_pieces k (f ∷ fs) l h e =
     ap₂ (λ (u : List ℕ) (v : List (List ℕ)). u ∷ v) first (split_pieces k fs (drop k l) h.1 rest)
 
 module _ (m : FieldMeaning) (laws : FieldLaws m) (a d : ℕ) (cs found part : List ℕ) (R : ℕ) (bytes : R ≡ found_bytes a d) (room : R ≤ length found) (same : length part ≡ R)
-    (few : (fs : List (List ℕ)) → All (RootWith m (polynomial a d cs) (suc a)) fs → Distinct fs → length fs ≤ most_y a d) where
+    (few : (fs : List (List ℕ)) → AllByRecursion (RootWith m (polynomial a d cs) (suc a)) fs → Distinct fs → length fs ≤ most_y a d) where
   below_size : (f : List ℕ) → Elements m f → get_or f 0 0 < m.size
   below_size [] h = omega (arith, laws.size_low)
   below_size (x ∷ f) h = h.0
@@ -84,7 +84,7 @@ module _ (m : FieldMeaning) (laws : FieldLaws m) (a d : ℕ) (cs found part : Li
     unfolding fs
     counted = omega (arith, told.2.0)
 
-    alone : All (RootWith m (polynomial a d cs) (suc a)) fs
+    alone : AllByRecursion (RootWith m (polynomial a d cs) (suc a)) fs
     unfolding fs
     alone =
         All-weaker (λ f. RootWith m (polynomial a d cs) (suc a) f × (get_or f 0 0 < m.size)) (RootWith m (polynomial a d cs) (suc a)) (λ f r. r.0) told.0 told.1.alone

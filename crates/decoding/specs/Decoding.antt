@@ -1,6 +1,6 @@
 -- What the calls of list decoding tell, and which faults.
 use Rattle.std.specs.Prelude.{◌≡◌, ℕ, zero, suc, ◌+◌, ◌*◌, ◌≤◌, Bool, true, cond, not, ◌&&◌, List, [], ◌∷◌, length, take, drop, Some, None, Option, ◌==◌, nat_le, nat_lt}
-use Rattle.std.specs.List.{ContainsAt as Has, AllByRecursion as All}
+use Rattle.std.specs.List.{ContainsAt, AllByRecursion}
 use Rattle.field.specs.Meaning.{FieldMeaning}
 use Rattle.bivariate.specs.Bivariate.{Elements, Distinct, Interpolates, agreement}
 use Rattle.bivariate.specs.Terms.{term_count, degree_bound, most_y}
@@ -23,8 +23,8 @@ only_zeros (c ∷ cs) = c == 0 && only_zeros cs
 
 -- fs lists the roots of Q with k coefficients: these alone, all of them, each once, and at most so many.
 pub record RootsFound (m : FieldMeaning) (Q : List (List ℕ)) (k most : ℕ) (fs : List (List ℕ)) : Type 0 where
-  pub alone : All (RootWith m Q k) fs
-  pub complete : (f : List ℕ) → RootWith m Q k f → Has fs f
+  pub alone : AllByRecursion (RootWith m Q k) fs
+  pub complete : (f : List ℕ) → RootWith m Q k f → ContainsAt fs f
   pub once : Distinct fs
   pub few : length fs ≤ most
 
@@ -67,4 +67,4 @@ decoding_rows m a word room memory =
 -- fs are the roots with a + 1 coefficients of something that interpolates the points, and so all that agree with d or more of them are there.
 pub record Decoded (m : FieldMeaning) (a d : ℕ) (points : List (ℕ × ℕ)) (fs : List (List ℕ)) : Type 0 where
   pub roots : (Q : List (List ℕ)) × Interpolates m a d points Q × RootsFound m Q (suc a) (most_y a d) fs
-  pub complete : (f : List ℕ) → length f ≡ suc a → Elements m f → d ≤ agreement m f points → Has fs f
+  pub complete : (f : List ℕ) → length f ≡ suc a → Elements m f → d ≤ agreement m f points → ContainsAt fs f

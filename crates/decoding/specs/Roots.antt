@@ -1,6 +1,6 @@
 -- What finding roots tells: the roots of a polynomial in x and y, one coefficient at a time.
 use Rattle.std.specs.Prelude.{◌≡◌, ℕ, ◌+◌, ◌*◌, ◌<◌, ◌≤◌, List, ◌++◌, length, take, drop, Some, None, Option, slice_index}
-use Rattle.std.specs.List.{ContainsAt as Has, flat_map, AllByRecursion as All}
+use Rattle.std.specs.List.{ContainsAt, flat_map, AllByRecursion}
 use Rattle.field.specs.Meaning.{FieldMeaning}
 use Rattle.bivariate.specs.Bivariate.{Elements, Root, Distinct}
 
@@ -12,8 +12,8 @@ pub record RootWith (m : FieldMeaning) (Q : List (List ℕ)) (k : ℕ) (f : List
 
 -- fs lists the roots of Q with k coefficients whose first coefficient is below c: these alone, all of them, and each once.
 pub record RootsBelow (m : FieldMeaning) (Q : List (List ℕ)) (k c : ℕ) (fs : List (List ℕ)) : Type 0 where
-  pub alone : All (λ f. RootWith m Q k f × (slice_index f 0 < c)) fs
-  pub complete : (f : List ℕ) → RootWith m Q k f → slice_index f 0 < c → Has fs f
+  pub alone : AllByRecursion (λ f. RootWith m Q k f × (slice_index f 0 < c)) fs
+  pub complete : (f : List ℕ) → RootWith m Q k f → slice_index f 0 < c → ContainsAt fs f
   pub once : Distinct fs
 
 -- Behind the first `count` lists of k numbers that stood before, there stand now, each behind what was chosen before it, all of fs; and behind them what stood there before.
@@ -25,7 +25,7 @@ Appended k chosen count before fs total after =
 -- More roots than there is room for.
 abbrev pub TooMany : FieldMeaning → List (List ℕ) → ℕ → ℕ → ℕ → List ℕ → Type 0
 TooMany m Q left k count before =
-    (fs : List (List ℕ)) × All (RootWith m Q left) fs × Distinct fs × (length before < (count + length fs) * k)
+    (fs : List (List ℕ)) × AllByRecursion (RootWith m Q left) fs × Distinct fs × (length before < (count + length fs) * k)
 
 -- What finding the last `left` of k coefficients has told: the roots, or that there is no room for all.
 abbrev pub Told : FieldMeaning → List (List ℕ) → ℕ → ℕ → List ℕ → ℕ → List ℕ → List ℕ → Option ℕ → Type 0

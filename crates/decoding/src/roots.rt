@@ -1,6 +1,6 @@
 // Finding all roots of a polynomial in x and y.
 ghost use Rattle.std.specs.Prelude.{◌≡◌, ℕ, suc, ◌+◌, ◌*◌, ◌<◌, ◌≤◌, true, List, [], length, drop, is_err};
-ghost use Rattle.std.specs.List.{AllByRecursion as All};
+ghost use Rattle.std.specs.List.{AllByRecursion};
 ghost use Rattle.refusal.specs.Tables.{Answers};
 ghost use Rattle.bivariate.specs.Bivariate.{Elements, Zeros, Distinct, coefficient};
 ghost use Rattle.bivariate.specs.Grid.{cell};
@@ -129,7 +129,7 @@ fn run<F: Field>(
     requires nonzero { ¬ (Zeros coefficients.now) }
     ensures same_length { length found.new ≡ length found.old }
     ensures told { Told (F.Field.meaning field.now) (polynomial a d coefficients.now) (suc a) (suc a) [] 0 found.old found.new result }
-    ensures few { (fs : List (List ℕ)) → All (RootWith (F.Field.meaning field.now) (polynomial a d coefficients.now) (suc a)) fs → Distinct fs → length fs ≤ most_y a d }
+    ensures few { (fs : List (List ℕ)) → AllByRecursion (RootWith (F.Field.meaning field.now) (polynomial a d coefficients.now) (suc a)) fs → Distinct fs → length fs ≤ most_y a d }
 {
     let k = a + 1;
     let w = (d - 1) / a + 1;

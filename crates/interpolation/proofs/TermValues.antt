@@ -1,7 +1,7 @@
 -- The values of all terms at a point, times the coefficients, are the polynomial's value there.
 -- Assumes nothing.
 use Rattle.std.proofs.Common.{◌≡◌, ℕ, zero, suc, ◌-◌, ◌<◌, ◌≤◌, List, [], ◌∷◌, ◌++◌, length, take, drop, sym, refl, ap, ◌∙◌, arith}
-use Rattle.std.specs.List.{AllByRecursion as All}
+use Rattle.std.specs.List.{AllByRecursion}
 use Rattle.std.proofs.ByRecursion.{All-append, All-take, All-drop}
 use Rattle.field.specs.Meaning.{FieldMeaning, FieldLaws}
 use Rattle.field.specs.Polynomial.{value_at}
@@ -50,7 +50,7 @@ module _ (m : FieldMeaning) (laws : FieldLaws m) where
   value_closed [] x h k = zero-element
   value_closed (c ∷ cs) x h k = laws.sum_closed _ _ h.0 (laws.product_closed _ _ k (value_closed cs x h.1 k))
 
-  pub point_value_closed : (Q : List (List ℕ)) (x y : ℕ) → All (Elements m) Q → x < m.size → y < m.size → point_value m Q x y < m.size
+  pub point_value_closed : (Q : List (List ℕ)) (x y : ℕ) → AllByRecursion (Elements m) Q → x < m.size → y < m.size → point_value m Q x y < m.size
   point_value_closed [] x y h hx hy = zero-element
   point_value_closed (p ∷ Q) x y h hx hy =
       laws.sum_closed _ _ (value_closed p x h.0 hx) (laws.product_closed _ _ hy (point_value_closed Q x y h.1 hx hy))

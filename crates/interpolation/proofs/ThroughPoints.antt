@@ -1,7 +1,7 @@
 -- What imposing one point more leaves, and what a vector that is alive has when all points are imposed.
 -- Assumes nothing.
 use Rattle.std.proofs.Common.{◌≡◌, ℕ, suc, ◌<◌, ◌≤◌, List, [], ◌∷◌, ◌++◌, length, take, sym, refl, ap, ◌∙◌, subst, arith}
-use Rattle.std.specs.List.{AllByRecursion as All}
+use Rattle.std.specs.List.{AllByRecursion}
 use Rattle.std.proofs.lemmas.List.{length-take-le, length_push}
 use Rattle.std.proofs.ByRecursion.{All-get_or, All-take, All-push}
 use Rattle.field.specs.Meaning.{FieldMeaning, FieldLaws}
@@ -41,7 +41,7 @@ module _ (m : FieldMeaning) (laws : FieldLaws m) (a d w : ℕ) (weight : 1 ≤ a
   module _ (old vs : List ℕ) (was : Staircase m w old) (stair : Staircase m w vs)
       (keeps : (e : List ℕ) → Elements m e → length e ≡ w → Solves m w old e → Solves m w vs e) where
     abbrev Vanish : List ℕ → ℕ → List (ℕ × ℕ) → Type 0
-    Vanish us t points = All (λ p. point_value m (polynomial a d (vector w us t)) p.0 p.1 ≡ 0) points
+    Vanish us t points = AllByRecursion (λ p. point_value m (polynomial a d (vector w us t)) p.0 p.1 ≡ 0) points
 
     still : (points : List (ℕ × ℕ)) → PointsOf m points → ((t : ℕ) → t < w → Alive w old t → Vanish old t points)
         → (t : ℕ) → t < w → Alive w vs t → Vanish vs t points

@@ -1,7 +1,7 @@
 -- The unit vectors are a staircase of which all are alive.
 -- Assumes nothing.
 use Rattle.std.proofs.Common.{◌≡◌, ℕ, zero, suc, ◌+◌, ◌*◌, ◌<◌, List, length, get_or, set, replicate, sym, refl, ◌∙◌, subst, ⊎_elim, arith, lit<}
-use Rattle.std.specs.List.{AllByRecursion as All}
+use Rattle.std.specs.List.{AllByRecursion}
 use Rattle.std.proofs.lemmas.List.{get_or-set_same, get_or-set_other, get_or-replicate, get_or_past, length-replicate}
 use Rattle.std.proofs.ByRecursion.{All-set, All-weaker, All-from_get_or}
 use Rattle.std.proofs.lemmas.Bool.{cases_eq, cases_lt}
@@ -13,7 +13,7 @@ use Rattle.interpolation.proofs.Places.{place_row, place_column, place_below}
 -- the first t vectors have 1 at their own place, and all other numbers are 0
 abbrev pub Units : ℕ → ℕ → List ℕ → Type 0
 Units w t vs =
-    All (λ x. x < 2) vs
+    AllByRecursion (λ x. x < 2) vs
     × ((a : ℕ) → a < t → entry w vs a a ≡ 1)
     × ((a s : ℕ) → s < w → ¬ (a ≡ s) → entry w vs a s ≡ 0)
 
