@@ -6,7 +6,7 @@ use Rattle.field.specs.Meaning.{FieldMeaning}
 use Rattle.bivariate.specs.Terms.{term_count, most_y, powers, monomials_from, monomials}
 use Rattle.bivariate.proofs.Degrees.{first_terms, first_terms_more, quotient_low}
 
--- ---- a·j < d exactly if j ≤ mostY a d
+-- ---- a·j < d exactly if j ≤ most_y a d
 
 module _ (a d : ℕ) (p : 1 ≤ a) (q : 1 ≤ d) where
   pub most_high : (j : ℕ) → a * j < d → j ≤ most_y a d

@@ -66,8 +66,8 @@ module _ (o i : CodeMeaning) (lo : CodeLaws o) (li : CodeLaws i) (covered : o.al
   concatenated_laws short =
       let positive : 0 < o.length * i.length = mul-pos lo.length_low li.length_low in
       record {
-        users-low = lo.users-low;
-        users-high = lo.users-high;
+        users_low = lo.users_low;
+        users_high = lo.users_high;
         length_low = omega arith;
         length_high = short;
         alphabet_low = li.alphabet_low;

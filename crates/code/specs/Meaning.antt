@@ -12,8 +12,8 @@ pub record CodeMeaning : Type 0 where
   pub symbol : ℕ → ℕ → ℕ
 
 pub record CodeLaws (m : CodeMeaning) : Type 0 where
-  pub users-low : 1 ≤ m.users
-  pub users-high : m.users ≤ 2 ^ 32
+  pub users_low : 1 ≤ m.users
+  pub users_high : m.users ≤ 2 ^ 32
   pub length_low : 1 ≤ m.length
   pub length_high : m.length ≤ 8192
   pub alphabet_low : 2 ≤ m.alphabet

@@ -28,8 +28,8 @@ symbol_no_position m u i h = cond-false _ _ _ (and_right _ _ (le-ltb _ _ h))
 -- two users of the least code are one user
 pub lone_laws : CodeLaws lone
 lone_laws = record {
-  users-low = lit≤ tt;
-  users-high = lit≤ tt;
+  users_low = lit≤ tt;
+  users_high = lit≤ tt;
   length_low = lit≤ tt;
   length_high = lit≤ tt;
   alphabet_low = lit≤ tt;

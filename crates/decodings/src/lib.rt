@@ -1,4 +1,6 @@
 // Tests of list decoding: words mixed from users and words of random numbers, full lists, and the edges of every range.
+#![tactic(auto)]
+
 #[cfg(test)]
 mod bounds;
 #[cfg(test)]

@@ -33,8 +33,8 @@ module _ (f : FieldMeaning) (laws : FieldLaws f) where
 
   pub plain_laws : (n k : ℕ) → 2 ≤ k → k ≤ n → n ≤ f.size → f.size ^ k ≤ 2 ^ 32 → CodeLaws (plain f n k)
   plain_laws n k low high within count = record {
-    users-low = one-le-pow k f.size some;
-    users-high = count;
+    users_low = one-le-pow k f.size some;
+    users_high = count;
     length_low = omega arith;
     length_high = omega (arith, laws.size_high);
     alphabet_low = laws.size_low;
@@ -114,8 +114,8 @@ module _ (f : FieldMeaning) (laws : FieldLaws f) where
   pub extended_laws : (k : ℕ) → 2 ≤ k → k ≤ f.size → f.size ^ k ≤ 2 ^ 32 → CodeLaws (doubly_extended f k)
   extended_laws zero low high count = absurd (omega arith)
   extended_laws (suc k) low high count = record {
-    users-low = one-le-pow (suc k) f.size some;
-    users-high = count;
+    users_low = one-le-pow (suc k) f.size some;
+    users_high = count;
     length_low = omega arith;
     length_high = omega (arith, laws.size_high);
     alphabet_low = laws.size_low;
