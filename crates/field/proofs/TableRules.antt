@@ -86,7 +86,7 @@ abbrev pub inverse_test : List ℕ → ℕ → Bool
 inverse_test table a = eqb (product256 a (get_or table a 0)) (gate a 1) && ltb (get_or table a 0) 256
 
 pub inverse_table : (table : List ℕ) → get_or table 0 0 ≡ 0 → all_below 256 (inverse_test table) ≡ true → InverseTable table
-inverse_table table first all = record { zero-entry = first; closed = λ a h. ltb-true _ 256 (parts a h).1; right = by }
+inverse_table table first all = record { zero_entry = first; closed = λ a h. ltb-true _ 256 (parts a h).1; right = by }
   where
     parts : (a : ℕ) → a < 256 → (eqb (product256 a (get_or table a 0)) (gate a 1) ≡ true) × (ltb (get_or table a 0) 256 ≡ true)
     parts a h = and_parts _ _ (at_each 256 (inverse_test table) all a h)
@@ -120,5 +120,5 @@ product-zero a = at_zero (shifted_sum 7 0x11D 8 a) (right_additive 7 0x11D 8 a)
 pub zero-product : (a : ℕ) → a < 256 → product256 0 a ≡ 0
 zero-product a h = gf256_laws.product_comm 0 a (lit< tt) h ∙ product-zero a
 
-pub inverse-entry : (table : List ℕ) → InverseTable table → (a : ℕ) → 0 < a → a < 256 → get_or table a 0 ≡ reciprocal 256 product256 a
-inverse-entry table rule a low high = inverse256 a (get_or table a 0) high (rule.closed a high) (rule.right a high (λ z. omega arith))
+pub inverse_entry : (table : List ℕ) → InverseTable table → (a : ℕ) → 0 < a → a < 256 → get_or table a 0 ≡ reciprocal 256 product256 a
+inverse_entry table rule a low high = inverse256 a (get_or table a 0) high (rule.closed a high) (rule.right a high (λ z. omega arith))

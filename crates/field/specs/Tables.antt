@@ -14,6 +14,6 @@ pub record LogarithmTable (table : List ℕ) : Type 0 where
   pub logarithm : (a : ℕ) → a < 256 → ¬ (a ≡ 0) → power_of_two (slice_index table a) ≡ a
 
 pub record InverseTable (table : List ℕ) : Type 0 where
-  pub zero-entry : slice_index table 0 ≡ 0
+  pub zero_entry : slice_index table 0 ≡ 0
   pub closed : (a : ℕ) → a < 256 → slice_index table a < 256
   pub right : (a : ℕ) → a < 256 → ¬ (a ≡ 0) → product256 a (slice_index table a) ≡ 1

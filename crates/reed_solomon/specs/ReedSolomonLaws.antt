@@ -79,8 +79,8 @@ module _ (f : FieldMeaning) (laws : FieldLaws f) where
         agreements_more (value_at f (digits q (suc k) u)) (value_at f (digits q (suc k) v)) (value_at f (low u)) (value_at f (low v)) q under,
       )
 
-  element-symbol : (k u i : ℕ) → i < f.size → (doubly_extended f k).symbol u i ≡ value_at f (digits f.size k u) i
-  element-symbol k u i h = cond-true _ _ _ (lt-ltb _ _ h)
+  element_symbol : (k u i : ℕ) → i < f.size → (doubly_extended f k).symbol u i ≡ value_at f (digits f.size k u) i
+  element_symbol k u i h = cond-true _ _ _ (lt-ltb _ _ h)
 
   top_symbol : (k u : ℕ) → (doubly_extended f (suc k)).symbol u f.size ≡ u / f.size ^ k % f.size
   top_symbol k u =
@@ -96,7 +96,7 @@ module _ (f : FieldMeaning) (laws : FieldLaws f) where
       let S = (doubly_extended f (suc k)).symbol in
       let V : ℕ → ℕ → ℕ = λ w. value_at f (digits q (suc k) w) in
       let elements : agreements (S u) (S v) q ≡ agreements (V u) (V v) q =
-      agreements_same (S u) (S v) (V u) (V v) q (element-symbol (suc k) u) (element-symbol (suc k) v) in
+      agreements_same (S u) (S v) (V u) (V v) q (element_symbol (suc k) u) (element_symbol (suc k) v) in
       ⊎_elim
       (λ e. omega (arith, elements, few_under_top k u v hu hv ne e, one (S u q == S v q)))
       (λ d. omega (
@@ -129,7 +129,7 @@ module _ (f : FieldMeaning) (laws : FieldLaws f) where
     where
       below : (u i : ℕ) → (i < f.size) ⊎ (f.size ≤ i) → i < f.size + 1 → (doubly_extended f (suc k)).symbol u i < f.size
       below u i (inl h) y =
-          subst (λ (s : ℕ). s < f.size) (sym (element-symbol (suc k) u i h))
+          subst (λ (s : ℕ). s < f.size) (sym (element_symbol (suc k) u i h))
           (value_below f laws (digits f.size (suc k) u) (digits_below f.size some (suc k) u) i h)
       below u i (inr h) y =
           let last : f.size ≡ i = omega arith in

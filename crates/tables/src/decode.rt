@@ -8,8 +8,6 @@ use code::Code;
 use decoding::{Fault, agreement, coefficient_at, find_roots, interpolate};
 use reed_solomon::Plain;
 use std::alloc::{AllocError, Global};
-use std::fmt;
-use std::fmt::Write;
 
 // How many terms stand in a row.
 const TERMS_IN_ROW: usize = 8;

@@ -2,7 +2,6 @@
 use crate::stop::Stop;
 use std::alloc::{AllocError, Global};
 use std::fmt;
-use std::fmt::Write;
 
 // What is wrong with the digits of a word.
 #[derive(Clone, Copy)]
