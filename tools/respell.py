@@ -5,7 +5,7 @@ usage: python3 tools/respell.py [--table FILE]     at the top of the repository,
 
 The table, respell.tsv beside this file, holds a line for each name: the old spelling, a tab, the new one. Names are
 replaced as whole words in specs/ and proofs/ (not in comments), in the clauses, ghost items and ghost imports of src/, and
-in the back quotes of README.md and docs/. A name that Rattle makes, as the one behind `w.`, stays. Prints each file in
+in the back quotes of README.md and docs/, but for PORT.md, which tells the old names too. A name that Rattle makes, as the one behind `w.`, stays. Prints each file in
 which a new name stood already, so that names that fall together are seen.
 """
 import os
@@ -105,7 +105,7 @@ def main(argv):
     top = os.getcwd()
     names = table(argv[1] if argv[:1] == ["--table"] else os.path.join(HERE, "respell.tsv"))
     fields = record_fields(top)
-    pages = [p for p in ["README.md", *("docs/" + d for d in sorted(os.listdir("docs")) if d.endswith(".md"))] if os.path.exists(p)]
+    pages = [p for p in ["README.md", *("docs/" + d for d in sorted(os.listdir("docs")) if d.endswith(".md") and d != "PORT.md")] if os.path.exists(p)]
     changed = 0
     for path in [*sources(top, (".antt", ".rt")), *pages]:
         text = read(path)
