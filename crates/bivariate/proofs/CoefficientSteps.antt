@@ -1,8 +1,8 @@
 -- The steps of a search for a coefficient among those of a polynomial.
 -- Assumes nothing.
-use Rattle.std.proofs.Common.{◌≡◌, ℕ, zero, suc, ◌+◌, ◌-◌, ◌*◌, ◌<◌, ◌≤◌, cond, ◌||◌, eqb, List, length, get_or, Some, None, sym, ap, ◌∙◌, ⊎_elim, mul-le-mul_left, mul-suc, add-one, arith}
+use Rattle.std.proofs.Common.{◌≡◌, ℕ, zero, suc, ◌+◌, ◌-◌, ◌*◌, ◌<◌, ◌≤◌, List, length, get_or, sym, ap, ◌∙◌, ⊎_elim, mul-le-mul_left, mul-suc, add-one, arith}
 use Rattle.std.proofs.lemmas.List.{get_or_past}
-use Rattle.std.proofs.lemmas.Bool.{cases_lt, cond-false, ne_eqb, or_from}
+use Rattle.std.proofs.lemmas.Bool.{cases_lt}
 use Rattle.bivariate.specs.Bivariate.{coefficient}
 use Rattle.bivariate.specs.Terms.{polynomial}
 use Rattle.bivariate.proofs.Degrees.{first_terms, first_terms_more}
@@ -26,12 +26,9 @@ power_more a d cs power start width before wide h l = (
   omega arith,
 )
 
-module _ (a d : ℕ) (cs : List ℕ) (g j : ℕ) (p : ¬ (a ≡ 0)) (q : ¬ (d ≡ 0)) where
+module _ (a d : ℕ) (cs : List ℕ) (g j : ℕ) (p : 1 ≤ a) (q : 1 ≤ d) where
   abbrev sought : ℕ
   sought = coefficient (polynomial a d cs) g j
-
-  found : (v : ℕ) → sought ≡ v → Some v ≡ cond (eqb a 0 || eqb d 0) None (Some sought)
-  found v e = ap Some (sym e) ∙ sym (cond-false _ _ _ (or_from _ _ (ne_eqb a 0 p) (ne_eqb d 0 q)))
 
   -- what the first j powers leave nothing for is 0
   past_end : length cs ≤ first_terms a d j → sought ≡ 0
@@ -42,14 +39,14 @@ module _ (a d : ℕ) (cs : List ℕ) (g j : ℕ) (p : ¬ (a ≡ 0)) (q : ¬ (d �
       (cases_lt (g + a * j) d)
 
   module _ (power start width : ℕ) (before : start ≡ first_terms a d power) (wide : width + a * power ≡ d) where
-    pub powers_out : power < j → width ≤ a → Some 0 ≡ cond (eqb a 0 || eqb d 0) None (Some sought)
+    pub powers_out : power < j → width ≤ a → 0 ≡ sought
     powers_out h l =
         let high : a * suc power ≤ a * j = mul-le-mul_left a (omega arith) in
-        found 0 (polynomial_weighted a d cs g j (omega (arith, mul-suc a power)))
+        sym (polynomial_weighted a d cs g j (omega (arith, mul-suc a power)))
 
-    pub coefficients_out : power < j → length cs - start ≤ width → Some 0 ≡ cond (eqb a 0 || eqb d 0) None (Some sought)
+    pub coefficients_out : power < j → length cs - start ≤ width → 0 ≡ sought
     coefficients_out h l =
-        found 0 (past_end (omega (arith, first_terms_more a d power, first_terms-up a d (suc power) j (omega arith))))
+        sym (past_end (omega (arith, first_terms_more a d power, first_terms-up a d (suc power) j (omega arith))))
 
     module _ (all : power ≡ j) where
       same : a * power ≡ a * j
@@ -58,16 +55,15 @@ module _ (a d : ℕ) (cs : List ℕ) (g j : ℕ) (p : ¬ (a ≡ 0)) (q : ¬ (d �
       start_is : start ≡ first_terms a d j
       start_is = before ∙ ap (first_terms a d) all
 
-      pub coefficient_read : g < width → Some (get_or cs (start + g) 0) ≡ cond (eqb a 0 || eqb d 0) None (Some sought)
+      pub coefficient_read : g < width → get_or cs (start + g) 0 ≡ sought
       coefficient_read h =
-          found (get_or cs (start + g) 0)
-          (polynomial-coefficient a d cs g j (omega arith) (omega (arith, same)) ∙ sym (ap (λ (n : ℕ). get_or cs (n + g) 0) start_is))
+          sym (polynomial-coefficient a d cs g j (omega arith) (omega (arith, same)) ∙ sym (ap (λ (n : ℕ). get_or cs (n + g) 0) start_is))
 
-      pub coefficient_wide : width ≤ g → Some 0 ≡ cond (eqb a 0 || eqb d 0) None (Some sought)
-      coefficient_wide h = found 0 (polynomial_weighted a d cs g j (omega (arith, same)))
+      pub coefficient_wide : width ≤ g → 0 ≡ sought
+      coefficient_wide h = sym (polynomial_weighted a d cs g j (omega (arith, same)))
 
-      pub coefficient_past : g < width → length cs - start ≤ g → Some 0 ≡ cond (eqb a 0 || eqb d 0) None (Some sought)
+      pub coefficient_past : g < width → length cs - start ≤ g → 0 ≡ sought
       coefficient_past h l =
-          found 0
+          sym
           (polynomial-coefficient a d cs g j (omega arith) (omega (arith, same))
           ∙ get_or_past cs (first_terms a d j + g) 0 (omega (arith, start_is)))

@@ -8,5 +8,5 @@ mod values;
 
 pub use agreements::agreement;
 pub use strangers::first_stranger;
-pub use terms::{coefficient_at, degree_bound};
+pub use terms::{Terms, coefficient_at, degree_bound};
 pub use values::{multiply_add, value_at};

@@ -1,5 +1,5 @@
 // The terms x^g·y^j with g + a·j < d: how great d must be for them to outnumber some points, and where their coefficients stand.
-ghost use Rattle.std.specs.Prelude.{◌≡◌, ◌||◌, if◌then◌else◌, Some, None, MatchOption, ◌==◌, nat_eq};
+ghost use Rattle.std.specs.Prelude.{◌≡◌, ◌≤◌, ◌↔◌, ◌||◌, IsSome, IfSome, if◌then◌else◌, Some, None, MatchOption, ◌==◌, nat_eq};
 ghost use Rattle.bivariate.specs.Bivariate.{coefficient};
 ghost use Rattle.bivariate.specs.Terms.{degree_bound, LeastBound, polynomial};
 
@@ -21,27 +21,54 @@ pub fn degree_bound(a: usize, n: u32) -> Option<usize>
     Some(d)
 }
 
+// The terms x^g·y^j with g + a·j < d: one at least, and not endlessly many.
+#[derive(Clone, Copy)]
+pub struct Terms {
+    pub a: usize,
+    pub d: usize,
+    ghost weight: { 1 ≤ a },
+    ghost degree: { 1 ≤ d },
+}
+
+impl Terms {
+    // None where a or d is 0.
+    pub fn new(a: usize, d: usize) -> Option<Terms>
+        ensures exist { IsSome result ↔ ((1 ≤ a) × (1 ≤ d)) }
+        ensures terms { IfSome result (λ t. (t.a ≡ a) × (t.d ≡ d)) }
+    {
+        if a == 0 || d == 0 {
+            return None;
+        }
+        Some(Terms { a, d })
+    }
+
+    // The coefficient of x^g·y^j in the polynomial with these coefficients, in the order of its terms.
+    pub fn coefficient(&self, coefficients: &[u8], g: usize, j: usize) -> u8
+        ensures { result ≡ coefficient (polynomial self.now.a self.now.d coefficients.now) g j }
+    {
+        // where the coefficients of a power of y start, and how many they are
+        let mut start = 0usize;
+        let mut width = self.d;
+        for _power in 0..j {
+            // no term has the next power, or its coefficients are past the end
+            if width <= self.a || coefficients.len() - start <= width {
+                return 0;
+            }
+            start += width;
+            width -= self.a;
+        }
+        if g < width && g < coefficients.len() - start {
+            coefficients[start + g]
+        } else {
+            0
+        }
+    }
+}
+
 // The coefficient of x^g·y^j in the polynomial with these coefficients, in the order of its terms, or None where a or d is 0.
 pub fn coefficient_at(a: usize, d: usize, coefficients: &[u8], g: usize, j: usize) -> Option<u8>
     ensures { result ≡ (if nat_eq a 0 || d == 0 then None else Some (coefficient (polynomial a d coefficients.now) g j)) }
 {
-    if a == 0 || d == 0 {
-        return None;
-    }
-    // where the coefficients of a power of y start, and how many they are
-    let mut start = 0usize;
-    let mut width = d;
-    for _power in 0..j {
-        // no term has the next power, or its coefficients are past the end
-        if width <= a || coefficients.len() - start <= width {
-            return Some(0);
-        }
-        start += width;
-        width -= a;
-    }
-    if g < width && g < coefficients.len() - start {
-        Some(coefficients[start + g])
-    } else {
-        Some(0)
-    }
+    let terms = Terms::new(a, d)?;
+    Some(terms.coefficient(coefficients, g, j))
 }

@@ -1,8 +1,8 @@
 use Rattle.std.proofs.Common.{◌≡◌, ◌+◌, ◌*◌, ◌≤◌, length}
 use Rattle.bivariate.proofs.Degrees.{first_terms}
-use Rattle.bivariate.proofs.terms.coefficient_at.Given as goal
+use Rattle.bivariate.proofs.terms.Terms.coefficient.Given as goal
 
 -- the powers passed are all before the end
 abbrev pub invariant-loop-power : goal.invariant-loop-power
 invariant-loop-power l =
-    (l.start ≡ first_terms l.a l.d l._power) × (l.width + l.a * l._power ≡ l.d) × (l.start ≤ length l.coefficients)
+    (l.start ≡ first_terms l.self.a l.self.d l._power) × (l.width + l.self.a * l._power ≡ l.self.d) × (l.start ≤ length l.coefficients)
