@@ -1,15 +1,14 @@
 -- The laws of a concatenation, from those of its parts.
 -- Assumes nothing.
-use Rattle.std.specs.Prelude.{◌≡◌, ℕ, zero, suc, ◌+◌, ◌*◌, ◌/◌, ◌%◌, ◌<◌, ◌≤◌, Bool, true, false, cond, Some, None, Option, ◌==◌, nat_eq, nat_le, refl}
-use Rattle.std.proofs.Common.{sym, ap, ap₂, ◌∙◌, ⊎_elim, zero-le, mod-lt, mul-pos, zero-mul, one-mul, suc-mul, add-mul, mul-le-mul_right, arith}
+use Rattle.std.specs.Prelude.{◌≡◌, ℕ, zero, suc, ◌+◌, ◌*◌, ◌/◌, ◌%◌, ◌<◌, ◌≤◌, Bool, true, false, cond, ◌==◌, nat_eq, refl}
+use Rattle.std.proofs.Common.{ap, ◌∙◌, zero-le, mod-lt, mul-pos, zero-mul, one-mul, suc-mul, add-mul, mul-le-mul_right, arith}
 use Rattle.std.proofs.Math.Nat.{le-min}
-use Rattle.std.proofs.lemmas.Bool.{cases_lt, leb-true, eqb-false, and_parts, cond-true, cond_both}
-use Rattle.std.proofs.lemmas.Nat.{div_below, le-div, div-mul-add, mod-mul-add}
+use Rattle.std.proofs.lemmas.Bool.{eqb-false}
+use Rattle.std.proofs.lemmas.Nat.{div_below, div-mul-add, mod-mul-add}
 use Rattle.field.specs.Polynomial.{agreements}
-use Rattle.code.specs.Meaning.{CodeMeaning, CodeLaws, symbol_at, lone}
-use Rattle.code.specs.Concatenation.{concatenated, concatenated_of, fit_together}
+use Rattle.code.specs.Meaning.{CodeMeaning, CodeLaws}
+use Rattle.code.specs.Concatenation.{concatenated}
 use Rattle.code.specs.Counting.{agreements_le, agreements_same, agreements_split}
-use Rattle.code.specs.Symbols.{symbol_some, symbol_in, symbol_no_user, symbol_no_position, lone_laws}
 
 module _ (o i : CodeMeaning) (lo : CodeLaws o) (li : CodeLaws i) (covered : o.alphabet ≤ i.users) where
   some : 0 < i.length
@@ -78,49 +77,3 @@ module _ (o i : CodeMeaning) (lo : CodeLaws o) (li : CodeLaws i) (covered : o.al
             li.symbol_below _ _ (omega (arith, lo.symbol_below u (p / i.length) x within)) (mod-lt p some);
         overlap_holds = λ u v x y ne. concatenated_few u v x y ne;
       }
-
-fit_parts : (o i : CodeMeaning) → fit_together o i ≡ true → (o.alphabet ≤ i.users) × (o.length * i.length ≤ 8192)
-fit_parts o i e =
-    let parts = and_parts (nat_le o.alphabet i.users) (nat_le (o.length * i.length) 8192) e in
-    (leb-true _ _ parts.0, leb-true _ _ parts.1)
-
-pub concatenated_of_laws : (o i : CodeMeaning) → CodeLaws o → CodeLaws i → CodeLaws (concatenated_of o i)
-concatenated_of_laws o i lo li =
-    cond_both (fit_together o i) (concatenated o i) lone CodeLaws
-    (λ e. let parts = fit_parts o i e in concatenated_laws o i lo li parts.0 parts.1) (λ _. lone_laws)
-
--- ---- what the code works out
-
-module _ (o i : CodeMeaning) (lo : CodeLaws o) (li : CodeLaws i) (e : true ≡ fit_together o i) (u p block place : ℕ)
-    (block-is : block ≡ p / i.length) (place_is : place ≡ p % i.length) where
-  positive : 0 < i.length
-  positive = omega (arith, li.length_low)
-
-  whole : symbol_at (concatenated_of o i) u p ≡ symbol_at (concatenated o i) u p
-  whole = ap (λ m. symbol_at m u p) (cond-true _ _ _ (sym e))
-
-  -- an outer symbol is an inner user, whose symbol it is
-  pub outer_some : (s : ℕ) (r : Option ℕ) → Some s ≡ symbol_at o u block → r ≡ symbol_at i s place → r ≡ symbol_at (concatenated_of o i) u p
-  outer_some s r h k =
-      let parts = fit_parts o i (sym e) in
-      let found = symbol_some o u block s h in
-      let user : s < i.users = omega (arith, lo.symbol_below u block found.0 found.1, parts.0) in
-      let inside : p < o.length * i.length =
-      ⊎_elim (λ h. h) (λ h. absurd (omega (arith, le-div o.length p i.length positive h))) (cases_lt p (o.length * i.length)) in
-      k ∙ symbol_in i s place user (omega (arith, mod-lt p positive))
-      ∙ ap₂ (λ (s j : ℕ). Some (i.symbol s j)) (found.2 ∙ ap (o.symbol u) block-is) place_is
-      ∙ sym (symbol_in (concatenated o i) u p found.0 inside) ∙ sym whole
-
-  -- without an outer symbol, the user or the position is out of range
-  pub outer_none : None ≡ symbol_at o u block → None ≡ symbol_at (concatenated_of o i) u p
-  outer_none h =
-      ⊎_elim
-      (λ x. ⊎_elim
-      (λ y.
-      let inside : block < o.length = omega (arith, div_below p i.length o.length positive y) in
-      let z : None ≡ Some (o.symbol u block) = h ∙ symbol_in o u block x inside in
-      let no : ◌≡◌ {A = ℕ} 0 1 = cc in absurd (omega arith))
-      (λ y. sym (symbol_no_position (concatenated o i) u p y) ∙ sym whole)
-      (cases_lt p (o.length * i.length)))
-      (λ x. sym (symbol_no_user (concatenated o i) u p x) ∙ sym whole)
-      (cases_lt u o.users)

@@ -2,6 +2,8 @@
 -- Assumes nothing.
 use Rattle.std.specs.Prelude.{◌≡◌, ℕ, zero, suc, ◌+◌, ◌<◌, ◌≤◌, Bool, true, false, cond, ◌==◌, refl}
 use Rattle.std.proofs.Common.{sym, ap, ap₂, ◌∙◌, zero-le, add-zero, add-suc, add_assoc, add-one, arith}
+use Rattle.std.specs.List.{count_by, range_with_len}
+use Rattle.std.proofs.lemmas.List.Sums.{sum_by-cons}
 use Rattle.std.proofs.lemmas.Bool.{eqb-true, eq-eqb, cond-true}
 use Rattle.field.specs.Polynomial.{agreements}
 
@@ -39,8 +41,15 @@ agreements_split f g a (suc n) =
     ∙ ap (λ (x : ℕ). x + cond (f (a + n) == g (a + n)) 1 0) (agreements_split f g a n)
     ∙ add_assoc (agreements f g a) (agreements (λ k. f (a + k)) (λ k. g (a + k)) n) (cond (f (a + n) == g (a + n)) 1 0)
 
--- one place more, where the loop has looked at it
-pub agreements_next : (f g : ℕ → ℕ) (i n n' : ℕ) (b : Bool) → n ≡ agreements f g i → b ≡ (f i == g i) → n' ≡ n + cond b 1 0
-    → n' ≡ agreements f g (i + 1)
-agreements_next f g i n n' b e eb e' =
-    e' ∙ ap₂ (λ (x : ℕ) (b : Bool). x + cond b 1 0) e eb ∙ sym (ap (agreements f g) (add-one i))
+-- the places below a, and those of the k from a on that pass a test of whether the functions agree
+pub agreements_listed : (f g : ℕ → ℕ) (test : ℕ → Bool) (k a : ℕ) → ((i : ℕ) → i < a + k → test i ≡ (f i == g i))
+    → agreements f g a + count_by test (range_with_len a k) ≡ agreements f g (a + k)
+agreements_listed f g test zero a same = add-zero (agreements f g a) ∙ sym (ap (agreements f g) (add-zero a))
+agreements_listed f g test (suc k) a same =
+    let more = agreements_listed f g test k (a + 1) (λ i l. same i (omega arith)) in
+    let next : agreements f g (a + 1) ≡ agreements f g a + cond (test a) 1 0 =
+    ap (agreements f g) (add-one a) ∙ ap (λ (b : Bool). agreements f g a + cond b 1 0) (sym (same a (omega arith))) in
+    let first : count_by test (range_with_len a (suc k)) ≡ cond (test a) 1 0 + count_by test (range_with_len (a + 1) k) =
+    sum_by-cons (λ i. cond (test i) 1 0) a (range_with_len (a + 1) k) in
+    let at : a + 1 + k ≡ a + suc k = omega arith in
+    omega (arith, more, next, first, ap (agreements f g) at)

@@ -1,22 +1,24 @@
 // The concatenation of any outer code with any inner code.
-ghost use Rattle.std.specs.Prelude.{◌≡◌, ◌/◌, ◌%◌};
-ghost use Rattle.refusal.specs.Refusals.{Answers};
-ghost use Rattle.code.specs.Concatenation.{concatenated, concatenated_of, concatenation_rows, fit_together};
-ghost use Rattle.code.specs.ConcatenationLaws.{concatenated_of_laws};
+ghost use Rattle.std.specs.Prelude.{◌≡◌, ◌*◌, ◌/◌, ◌%◌, ◌≤◌};
+ghost use Rattle.refusal.specs.Tables.{Answers};
+ghost use Rattle.code.specs.Concatenation.{concatenated, concatenation_rows};
+ghost use Rattle.code.specs.ConcatenationLaws.{concatenated_laws};
 
 use crate::Code;
-use crate::lone::lone_symbol;
 use refusal::Refusal;
 
+// There is an inner user for each outer symbol, and a table is not too long.
 #[derive(Drop)]
 pub struct Concatenation<O: Code, I: Code> {
     outer: O,
     inner: I,
+    ghost covered: { (O.Code.meaning outer).alphabet ≤ (I.Code.meaning inner).users },
+    ghost short: { (O.Code.meaning outer).length * (I.Code.meaning inner).length ≤ 8192 },
 }
 
 impl<O: Code + Drop, I: Code + Drop> Concatenation<O, I> {
     pub fn new(outer: O, inner: I) -> Result<Concatenation<O, I>, Refusal>
-        ensures { Answers result (concatenation_rows (O.Code.meaning outer) (I.Code.meaning inner)) (λ c. concatenated_of (O.Code.meaning c.outer) (I.Code.meaning c.inner) ≡ concatenated (O.Code.meaning outer) (I.Code.meaning inner)) }
+        ensures { Answers result (concatenation_rows (O.Code.meaning outer) (I.Code.meaning inner)) (λ c. ⟦<Concatenation<O, I> as Code>⟧.meaning c ≡ concatenated (O.Code.meaning outer) (I.Code.meaning inner)) }
     {
         let users = inner.users();
         if users < outer.alphabet() as u64 {
@@ -31,13 +33,6 @@ impl<O: Code + Drop, I: Code + Drop> Concatenation<O, I> {
 }
 
 impl<O: Code, I: Code> Concatenation<O, I> {
-    fn fits(&self) -> bool
-        ensures { result ≡ fit_together (O.Code.meaning self.now.outer) (I.Code.meaning self.now.inner) }
-    {
-        self.outer.alphabet() as u64 <= self.inner.users()
-            && self.outer.length() * self.inner.length() <= 8192
-    }
-
     // The block of a position, which is a position of the outer code, and the place within it, one of the inner code.
     fn block(&self, position: usize) -> (usize, usize)
         ensures block { result.0 ≡ position / (I.Code.meaning self.now.inner).length }
@@ -49,34 +44,23 @@ impl<O: Code, I: Code> Concatenation<O, I> {
 }
 
 impl<O: Code, I: Code> Code for Concatenation<O, I> {
-    ghost meaning = { λ c. concatenated_of (O.Code.meaning c.outer) (I.Code.meaning c.inner) };
+    ghost meaning = { λ c. concatenated (O.Code.meaning c.outer) (I.Code.meaning c.inner) };
 
-    ghost lawful = { λ c. concatenated_of_laws _ _ (O.Code.lawful c.outer) (I.Code.lawful c.inner) };
+    ghost lawful = { λ c. concatenated_laws _ _ (O.Code.lawful c.outer) (I.Code.lawful c.inner) c.covered c.short };
 
     fn users(&self) -> u64 {
-        if self.fits() { self.outer.users() } else { 1 }
+        self.outer.users()
     }
 
     fn length(&self) -> usize {
-        if self.fits() {
-            self.outer.length() * self.inner.length()
-        } else {
-            1
-        }
+        self.outer.length() * self.inner.length()
     }
 
     fn alphabet(&self) -> u16 {
-        if self.fits() {
-            self.inner.alphabet()
-        } else {
-            2
-        }
+        self.inner.alphabet()
     }
 
     fn overlap(&self) -> usize {
-        if !self.fits() {
-            return 0;
-        }
         let whole = self.outer.length() * self.inner.length();
         let blocks = self.outer.overlap() * self.inner.length();
         let rest = self.outer.length() * self.inner.overlap();
@@ -84,9 +68,6 @@ impl<O: Code, I: Code> Code for Concatenation<O, I> {
     }
 
     fn symbol(&self, user: u64, position: usize) -> Option<u8> {
-        if !self.fits() {
-            return lone_symbol(user, position);
-        }
         let (block, place) = self.block(position);
         let symbol = self.outer.symbol(user, block)?;
         self.inner.symbol(symbol as u64, place)

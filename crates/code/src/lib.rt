@@ -2,13 +2,13 @@
 #![tactic(auto)]
 
 ghost use Rattle.std.specs.Prelude.{◌≡◌, ◌<◌, ◌≤◌, IfSome, ◌==◌, ◌≢◌};
-ghost use Rattle.code.specs.Meaning.{CodeMeaning, CodeLaws, symbol_at, shared_positions};
+ghost use Rattle.code.specs.Meaning.{CodeMeaning, CodeLaws, symbol_at, agree_at, shared_positions};
 
 mod concatenation;
 mod lone;
 
 pub use concatenation::Concatenation;
-pub use lone::lone_symbol;
+pub use lone::{Lone, lone_symbol};
 
 // A code. What an implementation means is four numbers and a table for each user, and it owes the laws of codes.
 pub trait Code {
@@ -40,8 +40,7 @@ pub trait Code {
 // Whether two users have the same key number at a position.
 fn agree_at<C: Code>(code: &C, u: u64, v: u64, position: usize) -> bool
     requires users { (u < (C.Code.meaning code.now).users) × (v < (C.Code.meaning code.now).users) }
-    requires position { position < (C.Code.meaning code.now).length }
-    ensures { result ≡ ((C.Code.meaning code.now).symbol u position == (C.Code.meaning code.now).symbol v position) }
+    ensures { result ≡ agree_at (C.Code.meaning code.now) u v position }
 {
     match (code.symbol(u, position), code.symbol(v, position)) {
         (Some(x), Some(y)) => x == y,
@@ -58,11 +57,8 @@ pub fn shared_positions<C: Code>(code: &C, u: u64, v: u64) -> Option<usize>
     if u >= code.users() || v >= code.users() {
         return None;
     }
-    let mut count = 0;
-    for position in 0..code.length() {
-        if agree_at(code, u, v, position) {
-            count += 1;
-        }
-    }
+    let count = (0..code.length())
+        .filter(|&position| agree_at(code, u, v, position))
+        .count();
     Some(count)
 }

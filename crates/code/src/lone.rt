@@ -1,13 +1,43 @@
-// The least code: one user and one position. A value stands for it whose parts do not fit together.
+// The least code: one user and one position.
 ghost use Rattle.std.specs.Prelude.{◌≡◌};
 ghost use Rattle.code.specs.Meaning.{symbol_at, lone};
+ghost use Rattle.code.specs.Symbols.{lone_laws};
 
+use crate::Code;
+
+// The user's key number at a position, which is 0 where both are.
 pub fn lone_symbol(user: u64, position: usize) -> Option<u8>
     ensures { result ≡ symbol_at lone user position }
 {
-    if user < 1 && position < 1 {
-        Some(0)
-    } else {
-        None
+    (user < 1 && position < 1).then_some(0)
+}
+
+// The least code as a value.
+#[derive(Clone, Copy)]
+pub struct Lone;
+
+impl Code for Lone {
+    ghost meaning = { λ _. lone };
+
+    ghost lawful = { λ c. lone_laws };
+
+    fn users(&self) -> u64 {
+        1 // user 0
+    }
+
+    fn length(&self) -> usize {
+        1 // position 0
+    }
+
+    fn alphabet(&self) -> u16 {
+        2
+    }
+
+    fn overlap(&self) -> usize {
+        0
+    }
+
+    fn symbol(&self, user: u64, position: usize) -> Option<u8> {
+        lone_symbol(user, position)
     }
 }

@@ -12,7 +12,7 @@ use Rattle.bivariate.proofs.Degrees.{degree_bound_least, degree_bound_low, degre
 use Rattle.bivariate.proofs.ElementTests.{elements_from, elements_only_lem}
 use Rattle.bivariate.proofs.ForcedRoots.{agreement_forces_root, word_places, word_points}
 use Rattle.refusal.specs.Tables.{first_refusal}
-use Rattle.refusal.specs.Refusals.{within}
+use Rattle.refusal.specs.Tables.{within}
 use Rattle.refusal.proofs.Rows.{no_row, no_refusal}
 use Rattle.interpolation.specs.Interpolation.{interpolation_rows}
 use Rattle.interpolation.specs.declared.fault.Fault.{Fault}

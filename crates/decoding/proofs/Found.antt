@@ -12,7 +12,7 @@ use Rattle.bivariate.specs.Values.{elements_only}
 use Rattle.bivariate.proofs.ElementTests.{elements_from}
 use Rattle.bivariate.proofs.WrittenFronts.{front_length}
 use Rattle.refusal.specs.Tables.{first_refusal}
-use Rattle.refusal.specs.Refusals.{within}
+use Rattle.refusal.specs.Tables.{within}
 use Rattle.refusal.proofs.Rows.{no_row}
 use Rattle.decoding.specs.Decoding.{pieces, RootsFound, found_bytes, memory_bytes, root_rows}
 use Rattle.decoding.specs.Roots.{RootWith, TooMany, Told}

@@ -6,7 +6,7 @@ use Rattle.bivariate.specs.Bivariate.{Elements, Distinct, Interpolates, agreemen
 use Rattle.bivariate.specs.Terms.{term_count, degree_bound, most_y}
 use Rattle.bivariate.specs.Values.{elements_only, first_stranger}
 use Rattle.refusal.specs.Tables.{Row, row}
-use Rattle.refusal.specs.Refusals.{within}
+use Rattle.refusal.specs.Tables.{within}
 use Rattle.interpolation.specs.declared.fault.Fault.{Fault}
 use Rattle.interpolation.specs.declared.fault.Fault.TheVariants.{DegreeOutOfRange, BoundOutOfRange, WordTooLong, TooManyCoefficients, RoomTooShort, MemoryTooShort, NotAnElement, AllZero}
 use Rattle.decoding.specs.Roots.{RootWith}

@@ -1,5 +1,5 @@
 -- What a finite field means, the laws that it owes, and what its questions answer.
-use Rattle.std.specs.Prelude.{◌≡◌, ℕ, zero, suc, ◌<◌, ◌≤◌, Bool, cond, ◌&&◌, Some, None, Option, nat_eq, nat_lt}
+use Rattle.std.specs.Prelude.{◌≡◌, ℕ, zero, suc, ◌<◌, ◌≤◌, Bool, if◌then◌else◌, ◌&&◌, ◌==◌, Some, None, Option, nat_lt}
 
 -- The elements are the numbers below `size`. The operations matter on these alone.
 pub record FieldMeaning : Type 0 where
@@ -28,21 +28,21 @@ pub record FieldLaws (m : FieldMeaning) : Type 0 where
 
 -- A question about one number has an answer exactly if that is an element.
 abbrev pub answer : FieldMeaning → (ℕ → ℕ) → ℕ → Option ℕ
-answer m op a = cond (nat_lt a m.size) (Some (op a)) None
+answer m op a = if nat_lt a m.size then Some (op a) else None
 
 -- A question about two numbers has an answer exactly if both are elements.
 abbrev pub pair_answer : FieldMeaning → (ℕ → ℕ → ℕ) → ℕ → ℕ → Option ℕ
-pair_answer m op a b = cond (nat_lt a m.size && nat_lt b m.size) (Some (op a b)) None
+pair_answer m op a b = if nat_lt a m.size && nat_lt b m.size then Some (op a b) else None
 
 -- The inverse of 0 has no answer, and all else is as for any question about one number.
 abbrev pub inverse_answer : FieldMeaning → ℕ → Option ℕ
-inverse_answer m a = cond (nat_lt 0 a && nat_lt a m.size) (Some (m.inverse a)) None
+inverse_answer m a = if nat_lt 0 a && nat_lt a m.size then Some (m.inverse a) else None
 
 -- The first of the n numbers from i on that passes the test, or 0 where none does.
 abbrev pub first_from : (ℕ → Bool) → ℕ → ℕ → ℕ
 first_from test i zero = 0
-first_from test i (suc n) = cond (test i) i (first_from test (suc i) n)
+first_from test i (suc n) = if test i then i else first_from test (suc i) n
 
 -- The inverse by its meaning alone: the first element whose product with a is 1, or 0 where there is none, as at a = 0.
 unfoldable pub reciprocal : ℕ → (ℕ → ℕ → ℕ) → ℕ → ℕ
-reciprocal size product a = first_from (λ b. nat_eq (product a b) 1) 0 size
+reciprocal size product a = first_from (λ b. product a b == 1) 0 size

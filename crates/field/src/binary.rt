@@ -55,11 +55,12 @@ impl Field for Gf256 {
     }
 
     fn inverse(&self, a: u8) -> Option<u8> {
-        if a == 0 { None } else { Some(inverse_256(a)) }
+        (a != 0).then(|| inverse_256(a))
     }
 }
 
-// The polynomials modulo 0x13.
+// The polynomials modulo 0x13. Gf256 multiplies and inverts by tables and asks for no range, so that one generic type for both
+// would share two lines, and `Gf16` and `Gf256` would be no values.
 #[derive(Clone, Copy)]
 pub struct Gf16;
 
@@ -113,26 +114,18 @@ impl Field for Gf16 {
     }
 
     fn sum(&self, a: u8, b: u8) -> Option<u8> {
-        if a < 16 && b < 16 { Some(a ^ b) } else { None }
+        (a < 16 && b < 16).then(|| a ^ b)
     }
 
     fn product(&self, a: u8, b: u8) -> Option<u8> {
-        if a < 16 && b < 16 {
-            Some(times_16(a, b))
-        } else {
-            None
-        }
+        (a < 16 && b < 16).then(|| times_16(a, b))
     }
 
     fn negative(&self, a: u8) -> Option<u8> {
-        if a < 16 { Some(a) } else { None }
+        (a < 16).then_some(a)
     }
 
     fn inverse(&self, a: u8) -> Option<u8> {
-        if 0 < a && a < 16 {
-            Some(inverse_16(a))
-        } else {
-            None
-        }
+        (0 < a && a < 16).then(|| inverse_16(a))
     }
 }

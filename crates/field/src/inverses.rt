@@ -18,7 +18,7 @@ const INVERSES: [u8; 256] = [
     201, 66, 212, 232, 117, 127, 255, 126, 253,
 ];
 
-// The table, with its rule at every entry.
+// The table, with its rule at every entry. The rules of the three tables differ, so that each has a call of its own.
 pub(crate) fn inverses() -> &'static [u8; 256]
     ensures { InverseTable result.now }
 {

@@ -18,7 +18,7 @@ const LOGARITHMS: [u8; 256] = [
     214, 244, 234, 168, 80, 88, 175,
 ];
 
-// The table, with its rule at every entry.
+// The table, with its rule at every entry. The rules of the three tables differ, so that each has a call of its own.
 pub(crate) fn logarithms() -> &'static [u8; 256]
     ensures { LogarithmTable result.now }
 {

@@ -52,30 +52,18 @@ impl Field for Mod251 {
     }
 
     fn sum(&self, a: u8, b: u8) -> Option<u8> {
-        if a < 251 && b < 251 {
-            Some(((a as u16 + b as u16) % 251) as u8)
-        } else {
-            None
-        }
+        (a < 251 && b < 251).then(|| ((a as u16 + b as u16) % 251) as u8)
     }
 
     fn product(&self, a: u8, b: u8) -> Option<u8> {
-        if a < 251 && b < 251 {
-            Some(times(a, b))
-        } else {
-            None
-        }
+        (a < 251 && b < 251).then(|| times(a, b))
     }
 
     fn negative(&self, a: u8) -> Option<u8> {
-        if a < 251 { Some((251 - a) % 251) } else { None }
+        (a < 251).then(|| (251 - a) % 251)
     }
 
     fn inverse(&self, a: u8) -> Option<u8> {
-        if 0 < a && a < 251 {
-            Some(inverse_251(a))
-        } else {
-            None
-        }
+        (0 < a && a < 251).then(|| inverse_251(a))
     }
 }

@@ -18,7 +18,7 @@ const POWERS: [u8; 255] = [
     131, 27, 54, 108, 216, 173, 71, 142,
 ];
 
-// The table, with its rule at every entry.
+// The table, with its rule at every entry. The rules of the three tables differ, so that each has a call of its own.
 pub(crate) fn powers() -> &'static [u8; 255]
     ensures { PowerTable result.now }
 {

@@ -10,7 +10,7 @@ use Rattle.bivariate.proofs.ElementTests.{elements_from}
 use Rattle.bivariate.proofs.WrittenFronts.{front_length}
 use Rattle.bivariate.proofs.Degrees.{degree_bound_least, degree_bound_low}
 use Rattle.refusal.specs.Tables.{first_refusal}
-use Rattle.refusal.specs.Refusals.{within}
+use Rattle.refusal.specs.Tables.{within}
 use Rattle.refusal.proofs.Rows.{no_row}
 use Rattle.interpolation.specs.Interpolation.{interpolation_rows}
 

@@ -3,7 +3,7 @@ use Rattle.std.specs.Prelude.{ℕ, ◌+◌, ◌*◌, not, List, [], ◌∷◌, l
 use Rattle.field.specs.Meaning.{FieldMeaning}
 use Rattle.bivariate.specs.Values.{elements_only, first_stranger}
 use Rattle.refusal.specs.Tables.{Row, row}
-use Rattle.refusal.specs.Refusals.{within}
+use Rattle.refusal.specs.Tables.{within}
 use Rattle.interpolation.specs.declared.fault.Fault.{Fault}
 use Rattle.interpolation.specs.declared.fault.Fault.TheVariants.{DegreeOutOfRange, WordTooLong, RoomTooShort, MemoryTooShort, NotAnElement}
 

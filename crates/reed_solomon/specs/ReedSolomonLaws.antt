@@ -6,16 +6,15 @@ use Rattle.std.proofs.Common.{◌∙◌, subst, inl, inr, mod-lt, add-one}
 use Rattle.std.proofs.Math.Logic.{⊎_elim}
 use Rattle.std.proofs.Math.Nat.{one-le-pow}
 use native.Mathlib.Omega.{arith}
-use Rattle.std.proofs.lemmas.Bool.{cases_lt, cases_eq, lt-ltb, le-ltb, ne_eqb, eqb-true, cond-true, cond-false, cond_both}
+use Rattle.std.proofs.lemmas.Bool.{cases_lt, cases_eq, lt-ltb, le-ltb, ne_eqb, cond-true, cond-false}
 use Rattle.field.specs.Meaning.{FieldMeaning, FieldLaws}
 use Rattle.field.specs.Polynomial.{value_at, agreements}
 use Rattle.field.proofs.Numbers.{value_below, few_agreements, values_under_top}
-use Rattle.code.specs.Meaning.{CodeLaws, lone}
-use Rattle.reed_solomon.specs.Polynomials.{digits, has_size}
-use Rattle.reed_solomon.specs.Plain.{plain, plain_of}
-use Rattle.reed_solomon.specs.DoublyExtended.{doubly_extended, extended_of}
+use Rattle.code.specs.Meaning.{CodeLaws}
+use Rattle.reed_solomon.specs.Polynomials.{digits}
+use Rattle.reed_solomon.specs.Plain.{plain}
+use Rattle.reed_solomon.specs.DoublyExtended.{doubly_extended}
 use Rattle.code.specs.Counting.{agreements_same, agreements_more}
-use Rattle.code.specs.Symbols.{lone_laws}
 use Rattle.reed_solomon.specs.Digits.{digits-length, digits_below, digits_tell, digits_top, top_digit}
 
 module _ (f : FieldMeaning) (laws : FieldLaws f) where
@@ -43,13 +42,6 @@ module _ (f : FieldMeaning) (laws : FieldLaws f) where
     symbol_below = λ u i x y. value_below f laws (digits f.size k u) (digits_below f.size some k u) i (omega arith);
     overlap_holds = λ u v x y ne. omega (arith, few k n u v within x y ne);
   }
-
-  pub plain_of_laws : (size n k : ℕ) → 2 ≤ k → k ≤ n → n ≤ size → size ^ k ≤ 2 ^ 32 → CodeLaws (plain_of f size n k)
-  plain_of_laws size n k low high within count =
-      cond_both (has_size f size) (plain f n k) lone CodeLaws
-      (λ e. let same = eqb-true _ _ e in
-      plain_laws n k low high (omega arith) (subst (λ (q : ℕ). q ^ k ≤ 2 ^ 32) (sym same) count))
-      (λ _. lone_laws)
 
   -- ---- the position of the top coefficient
 
@@ -135,10 +127,3 @@ module _ (f : FieldMeaning) (laws : FieldLaws f) where
           let last : f.size ≡ i = omega arith in
           subst (λ (j : ℕ). (doubly_extended f (suc k)).symbol u j < f.size) last
           (subst (λ (s : ℕ). s < f.size) (sym (top_symbol k u)) (mod-lt _ some))
-
-  pub extended_of_laws : (size k : ℕ) → 2 ≤ k → k ≤ size → size ^ k ≤ 2 ^ 32 → CodeLaws (extended_of f size k)
-  extended_of_laws size k low high count =
-      cond_both (has_size f size) (doubly_extended f k) lone CodeLaws
-      (λ e. let same = eqb-true _ _ e in
-      extended_laws k low (omega arith) (subst (λ (q : ℕ). q ^ k ≤ 2 ^ 32) (sym same) count))
-      (λ _. lone_laws)

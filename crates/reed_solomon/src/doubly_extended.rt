@@ -1,12 +1,12 @@
 // The doubly extended code over any field.
 ghost use Rattle.std.specs.Prelude.{◌≡◌, ℕ, ◌^◌, ◌≤◌};
 ghost use Rattle.std.proofs.Common.{subst};
-ghost use Rattle.refusal.specs.Refusals.{Answers};
-ghost use Rattle.reed_solomon.specs.DoublyExtended.{doubly_extended, extended_of, extended_rows};
-ghost use Rattle.reed_solomon.specs.ReedSolomonLaws.{extended_of_laws};
+ghost use Rattle.refusal.specs.Tables.{Answers};
+ghost use Rattle.reed_solomon.specs.DoublyExtended.{doubly_extended, extended_rows};
+ghost use Rattle.reed_solomon.specs.ReedSolomonLaws.{extended_laws};
 
 use crate::polynomials::Polynomials;
-use code::{Code, lone_symbol};
+use code::Code;
 use field::Field;
 use refusal::Refusal;
 
@@ -14,12 +14,12 @@ use refusal::Refusal;
 #[derive(Drop)]
 pub struct DoublyExtended<F: Field> {
     polynomials: Polynomials<F>,
-    ghost elements: { polynomials.coefficients ≤ polynomials.size },
+    ghost elements: { polynomials.coefficients ≤ (F.Field.meaning polynomials.field).size },
 }
 
 impl<F: Field + Drop> DoublyExtended<F> {
     pub fn new(field: F, coefficients: usize) -> Result<DoublyExtended<F>, Refusal>
-        ensures { Answers result (extended_rows (F.Field.meaning field).size coefficients) (λ c. extended_of (F.Field.meaning c.polynomials.field) c.polynomials.size c.polynomials.coefficients ≡ doubly_extended (F.Field.meaning field) coefficients) }
+        ensures { Answers result (extended_rows (F.Field.meaning field).size coefficients) (λ c. ⟦<DoublyExtended<F> as Code>⟧.meaning c ≡ doubly_extended (F.Field.meaning field) coefficients) }
     {
         let size = field.size() as usize;
         let polynomials = Polynomials::new(field, coefficients, size)?;
@@ -28,11 +28,11 @@ impl<F: Field + Drop> DoublyExtended<F> {
 }
 
 impl<F: Field> Code for DoublyExtended<F> {
-    ghost meaning = { λ c. extended_of (F.Field.meaning c.polynomials.field) c.polynomials.size c.polynomials.coefficients };
+    ghost meaning = { λ c. doubly_extended (F.Field.meaning c.polynomials.field) c.polynomials.coefficients };
 
     ghost lawful = { λ c.
         let p = c.polynomials in
-        extended_of_laws _ (F.Field.lawful p.field) p.size p.coefficients p.coefficients_low c.elements
+        extended_laws _ (F.Field.lawful p.field) p.coefficients p.coefficients_low c.elements
         (subst (λ (n : ℕ). n ≤ 2 ^ 32) p.counted p.count_high) };
 
     fn users(&self) -> u64 {
@@ -40,11 +40,7 @@ impl<F: Field> Code for DoublyExtended<F> {
     }
 
     fn length(&self) -> usize {
-        if self.polynomials.sound() {
-            1 + self.polynomials.size as usize
-        } else {
-            1
-        }
+        1 + self.polynomials.field.size() as usize
     }
 
     fn alphabet(&self) -> u16 {
@@ -57,10 +53,7 @@ impl<F: Field> Code for DoublyExtended<F> {
 
     fn symbol(&self, user: u64, position: usize) -> Option<u8> {
         let p = &self.polynomials;
-        if !p.sound() {
-            return lone_symbol(user, position);
-        }
-        let size = p.size as usize;
+        let size = p.field.size() as usize;
         if user >= p.count || position > size {
             return None;
         }

@@ -1,12 +1,12 @@
 // The plain code over any field.
 ghost use Rattle.std.specs.Prelude.{◌≡◌, ℕ, ◌^◌, ◌≤◌};
 ghost use Rattle.std.proofs.Common.{subst};
-ghost use Rattle.refusal.specs.Refusals.{Answers};
-ghost use Rattle.reed_solomon.specs.Plain.{plain, plain_of, plain_rows};
-ghost use Rattle.reed_solomon.specs.ReedSolomonLaws.{plain_of_laws};
+ghost use Rattle.refusal.specs.Tables.{Answers};
+ghost use Rattle.reed_solomon.specs.Plain.{plain, plain_rows};
+ghost use Rattle.reed_solomon.specs.ReedSolomonLaws.{plain_laws};
 
 use crate::polynomials::Polynomials;
-use code::{Code, lone_symbol};
+use code::Code;
 use field::Field;
 use refusal::Refusal;
 
@@ -16,12 +16,12 @@ pub struct Plain<F: Field> {
     polynomials: Polynomials<F>,
     length: usize,
     ghost enough: { polynomials.coefficients ≤ length },
-    ghost elements: { length ≤ polynomials.size },
+    ghost elements: { length ≤ (F.Field.meaning polynomials.field).size },
 }
 
 impl<F: Field + Drop> Plain<F> {
     pub fn new(field: F, length: usize, coefficients: usize) -> Result<Plain<F>, Refusal>
-        ensures { Answers result (plain_rows (F.Field.meaning field).size length coefficients) (λ c. plain_of (F.Field.meaning c.polynomials.field) c.polynomials.size c.length c.polynomials.coefficients ≡ plain (F.Field.meaning field) length coefficients) }
+        ensures { Answers result (plain_rows (F.Field.meaning field).size length coefficients) (λ c. ⟦<Plain<F> as Code>⟧.meaning c ≡ plain (F.Field.meaning field) length coefficients) }
     {
         if length < 2 || length > field.size() as usize {
             return Err(Refusal::LengthOutOfRange(length));
@@ -34,12 +34,13 @@ impl<F: Field + Drop> Plain<F> {
     }
 }
 
+// Users, alphabet and overlap are the polynomials' own, here as in `DoublyExtended`: an impl writes all methods of its trait.
 impl<F: Field> Code for Plain<F> {
-    ghost meaning = { λ c. plain_of (F.Field.meaning c.polynomials.field) c.polynomials.size c.length c.polynomials.coefficients };
+    ghost meaning = { λ c. plain (F.Field.meaning c.polynomials.field) c.length c.polynomials.coefficients };
 
     ghost lawful = { λ c.
         let p = c.polynomials in
-        plain_of_laws _ (F.Field.lawful p.field) p.size c.length p.coefficients p.coefficients_low c.enough c.elements
+        plain_laws _ (F.Field.lawful p.field) c.length p.coefficients p.coefficients_low c.enough c.elements
         (subst (λ (n : ℕ). n ≤ 2 ^ 32) p.counted p.count_high) };
 
     fn users(&self) -> u64 {
@@ -47,11 +48,7 @@ impl<F: Field> Code for Plain<F> {
     }
 
     fn length(&self) -> usize {
-        if self.polynomials.sound() {
-            self.length
-        } else {
-            1
-        }
+        self.length
     }
 
     fn alphabet(&self) -> u16 {
@@ -64,9 +61,6 @@ impl<F: Field> Code for Plain<F> {
 
     fn symbol(&self, user: u64, position: usize) -> Option<u8> {
         let p = &self.polynomials;
-        if !p.sound() {
-            return lone_symbol(user, position);
-        }
         if user >= p.count || position >= self.length {
             return None;
         }

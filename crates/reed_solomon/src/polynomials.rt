@@ -1,8 +1,8 @@
 // The polynomials that number the users of a Reed-Solomon code.
-ghost use Rattle.std.specs.Prelude.{◌≡◌, ◌-◌, ◌/◌, ◌%◌, ◌^◌, ◌<◌, ◌≤◌, true, if◌then◌else◌, Some, None, nat_le, slice_index};
+ghost use Rattle.std.specs.Prelude.{◌≡◌, ◌-◌, ◌/◌, ◌%◌, ◌^◌, ◌<◌, ◌≤◌, if◌then◌else◌, Some, None, nat_le, slice_index};
 ghost use Rattle.field.specs.Polynomial.{value_at};
-ghost use Rattle.refusal.specs.Refusals.{Answers};
-ghost use Rattle.reed_solomon.specs.Polynomials.{digits, coefficient_rows, has_size};
+ghost use Rattle.refusal.specs.Tables.{Answers};
+ghost use Rattle.reed_solomon.specs.Polynomials.{digits, coefficient_rows};
 
 use field::Field;
 use refusal::Refusal;
@@ -11,30 +11,20 @@ use refusal::Refusal;
 #[derive(Drop)]
 pub struct Polynomials<F: Field> {
     pub field: F,
-    pub size: u16,
     pub coefficients: usize,
     pub count: u64,
-    ghost size_low: { 2 ≤ size },
-    ghost size_high: { size ≤ 256 },
     ghost coefficients_low: { 2 ≤ coefficients },
     ghost coefficients_high: { coefficients ≤ 8 },
-    ghost counted: { count ≡ size ^ coefficients },
+    ghost counted: { count ≡ (F.Field.meaning field).size ^ coefficients },
     ghost count_high: { count ≤ 2 ^ 32 },
 }
 
 // base^exponent, or None where that is above 2^32.
-fn power_within(base: u64, exponent: usize) -> Option<u64>
-    requires { (2 ≤ base) × (base ≤ 256) }
+fn power_within(base: u64, exponent: u32) -> Option<u64>
     ensures { result ≡ (if nat_le (base ^ exponent) (2 ^ 32) then Some (base ^ exponent) else None) }
 {
-    let mut power = 1u64;
-    for _i in 0..exponent {
-        power *= base;
-        if power > 4294967296 {
-            return None;
-        }
-    }
-    Some(power)
+    base.checked_pow(exponent)
+        .filter(|&power| power <= 4294967296)
 }
 
 // The lowest digit of a number, and the number that the other digits make.
@@ -47,16 +37,15 @@ fn lowest_digit(number: u64, size: u64) -> (u8, u64)
 }
 
 // The value at x of the polynomial whose coefficients are the k lowest digits of `number`: k products and k sums.
-fn value_at<F: Field>(field: &F, size: u64, k: usize, number: u64, x: u8) -> Option<u8>
-    requires sized { size ≡ (F.Field.meaning field.now).size }
-    requires element { x < size }
-    ensures { result ≡ Some (value_at (F.Field.meaning field.now) (digits size k number) x) }
+fn value_at<F: Field>(field: &F, k: usize, number: u64, x: u8) -> Option<u8>
+    requires { x < (F.Field.meaning field.now).size }
+    ensures { result ≡ Some (value_at (F.Field.meaning field.now) (digits (F.Field.meaning field.now).size k number) x) }
 {
     if k == 0 {
         return Some(0);
     }
-    let (digit, rest) = lowest_digit(number, size);
-    let value = value_at(field, size, k - 1, rest, x)?;
+    let (digit, rest) = lowest_digit(number, field.size() as u64);
+    let value = value_at(field, k - 1, rest, x)?;
     let product = field.product(x, value)?;
     field.sum(digit, product)
 }
@@ -64,72 +53,57 @@ fn value_at<F: Field>(field: &F, size: u64, k: usize, number: u64, x: u8) -> Opt
 impl<F: Field + Drop> Polynomials<F> {
     // The polynomials of so many coefficients, of which there may be at most 8 and at most `most`.
     pub(crate) fn new(field: F, coefficients: usize, most: usize) -> Result<Polynomials<F>, Refusal>
-        ensures { Answers result (coefficient_rows (F.Field.meaning field).size most coefficients) (λ p. (p.field ≡ field) × (p.size ≡ (F.Field.meaning field).size) × (p.coefficients ≡ coefficients)) }
+        ensures { Answers result (coefficient_rows (F.Field.meaning field).size most coefficients) (λ p. (p.field ≡ field) × (p.coefficients ≡ coefficients)) }
     {
         if coefficients < 2 || coefficients > 8 || coefficients > most {
             return Err(Refusal::CoefficientsOutOfRange(coefficients));
         }
-        let size = field.size();
-        match power_within(size as u64, coefficients) {
-            Some(count) => Ok(Polynomials {
-                field,
-                size,
-                coefficients,
-                count,
-            }),
-            None => Err(Refusal::TooManyUsers(coefficients)),
-        }
+        let count = power_within(field.size() as u64, coefficients as u32).ok_or(
+            Refusal::TooManyUsers(coefficients),
+        )?;
+        Ok(Polynomials {
+            field,
+            coefficients,
+            count,
+        })
     }
 }
 
 impl<F: Field> Polynomials<F> {
-    // Whether the field has the size that it had when this was made.
-    pub(crate) fn sound(&self) -> bool
-        ensures { result ≡ has_size (F.Field.meaning self.now.field) self.now.size }
-    {
-        self.field.size() == self.size
-    }
-
     // The users of a code of these polynomials.
     pub(crate) fn users(&self) -> u64
-        ensures { result ≡ (if has_size (F.Field.meaning self.now.field) self.now.size then (F.Field.meaning self.now.field).size ^ self.now.coefficients else 1) }
+        ensures { result ≡ (F.Field.meaning self.now.field).size ^ self.now.coefficients }
     {
-        if self.sound() { self.count } else { 1 }
+        self.count
     }
 
     // Its key numbers, which are the elements.
     pub(crate) fn alphabet(&self) -> u16
-        ensures { result ≡ (if has_size (F.Field.meaning self.now.field) self.now.size then (F.Field.meaning self.now.field).size else 2) }
+        ensures { result ≡ (F.Field.meaning self.now.field).size }
     {
-        if self.sound() { self.size } else { 2 }
+        self.field.size()
     }
 
     // At how many points two different polynomials agree at most.
     pub(crate) fn overlap(&self) -> usize
-        ensures { result ≡ (if has_size (F.Field.meaning self.now.field) self.now.size then self.now.coefficients - 1 else 0) }
+        ensures { result ≡ self.now.coefficients - 1 }
     {
-        if self.sound() {
-            self.coefficients - 1
-        } else {
-            0
-        }
+        self.coefficients - 1
     }
 
     // The value of a user's polynomial at an element.
     pub(crate) fn value(&self, user: u64, x: u8) -> Option<u8>
-        requires sound { true ≡ has_size (F.Field.meaning self.now.field) self.now.size }
-        requires element { x < self.now.size }
+        requires { x < (F.Field.meaning self.now.field).size }
         ensures { result ≡ Some (value_at (F.Field.meaning self.now.field) (digits (F.Field.meaning self.now.field).size self.now.coefficients user) x) }
     {
-        value_at(&self.field, self.size as u64, self.coefficients, user, x)
+        value_at(&self.field, self.coefficients, user, x)
     }
 
     // The top coefficient of a user's polynomial.
     pub(crate) fn top(&self, user: u64) -> u8
-        requires sound { true ≡ has_size (F.Field.meaning self.now.field) self.now.size }
-        requires member { user < self.now.count }
+        requires { user < self.now.count }
         ensures { result ≡ slice_index (digits (F.Field.meaning self.now.field).size self.now.coefficients user) (self.now.coefficients - 1) }
     {
-        (user / (self.count / self.size as u64)) as u8
+        (user / (self.count / self.field.size() as u64)) as u8
     }
 }

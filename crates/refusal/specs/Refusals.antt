@@ -1,5 +1,5 @@
--- What each refusal tells, and how the rows of a call's table of refusals decide.
-use Rattle.std.specs.Prelude.{◌≡◌, ℕ, Bool, cond, ◌&&◌, List, [], ◌∷◌, ◌++◌, Some, None, Ok, Err, codes, decimal, Option, Result, nat_le}
+-- What each refusal tells.
+use Rattle.std.specs.Prelude.{ℕ, List, ◌++◌, codes, decimal}
 use Rattle.refusal.specs.declared.Layer.{Layer}
 use Rattle.refusal.specs.declared.Layer.TheVariants.{Code, Book, Console}
 use Rattle.refusal.specs.declared.Refusal.{Refusal}
@@ -54,27 +54,3 @@ abbrev pub sentence : Refusal → List ℕ
 sentence r =
     codes "refused (" ++ (decimal (number_of r) ++ (codes ", place " ++ (decimal (place_of r) ++ (codes ", layer "
     ++ (layer_name (layer_of r) ++ (codes "): " ++ reason_of r))))))
-
--- ---- how the rows of a table decide
-
--- A row of a call's table: where the condition holds, the refusal is this, unless a row above it has told one.
-pub record Row : Type 0 where
-  pub condition : Bool
-  pub refusal : Refusal
-
-abbrev pub row : Bool → Refusal → Row
-row condition refusal = record { condition = condition; refusal = refusal }
-
--- the refusal of the first row whose condition holds
-abbrev pub first_refusal : List Row → Option Refusal
-first_refusal [] = None
-first_refusal (r ∷ rs) = cond r.condition (Some r.refusal) (first_refusal rs)
-
--- A call answers as its rows decide: it refuses exactly as the first row that holds says, and what it gives where none holds is as P says.
-abbrev pub Answers : {T : Type 0} → Result T Refusal → List Row → (T → Type 0) → Type 0
-Answers (Ok x) rows P = (first_refusal rows ≡ None) × P x
-Answers (Err e) rows P = first_refusal rows ≡ Some e
-
--- low ≤ x ≤ high
-abbrev pub within : ℕ → ℕ → ℕ → Bool
-within low x high = nat_le low x && nat_le x high

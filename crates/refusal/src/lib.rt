@@ -64,11 +64,9 @@ impl Refusal {
         ensures { result ≡ place_of self.now }
     {
         match self {
-            Refusal::LengthOutOfRange(n) => *n as u64,
-            Refusal::CoefficientsOutOfRange(k) => *k as u64,
-            Refusal::TooManyUsers(k) => *k as u64,
+            Refusal::LengthOutOfRange(n) | Refusal::LengthTooLong(n) => *n as u64,
+            Refusal::CoefficientsOutOfRange(k) | Refusal::TooManyUsers(k) => *k as u64,
             Refusal::InnerUsersTooFew(users) => *users,
-            Refusal::LengthTooLong(n) => *n as u64,
             Refusal::UserOutOfRange(user) => *user,
             Refusal::LineNotUnderstood => 0,
         }
@@ -78,11 +76,11 @@ impl Refusal {
         ensures { result ≡ layer_of self.now }
     {
         match self {
-            Refusal::LengthOutOfRange(_) => Layer::Code,
-            Refusal::CoefficientsOutOfRange(_) => Layer::Code,
-            Refusal::TooManyUsers(_) => Layer::Code,
-            Refusal::InnerUsersTooFew(_) => Layer::Code,
-            Refusal::LengthTooLong(_) => Layer::Code,
+            Refusal::LengthOutOfRange(_)
+            | Refusal::CoefficientsOutOfRange(_)
+            | Refusal::TooManyUsers(_)
+            | Refusal::InnerUsersTooFew(_)
+            | Refusal::LengthTooLong(_) => Layer::Code,
             Refusal::UserOutOfRange(_) => Layer::Book,
             Refusal::LineNotUnderstood => Layer::Console,
         }

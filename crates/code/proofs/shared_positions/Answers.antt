@@ -1,31 +1,38 @@
-use Rattle.std.proofs.Common.{◌≡◌, ◌<◌, true, false, ◌∙◌, arith}
-use Rattle.code.specs.Counting.{agreements_next}
+use Rattle.std.proofs.Common.{rules, tests, ◌≡◌, ℕ, ◌&&◌, ◌==◌, Bool, zero-add, arith, ap, ◌∙◌}
+use Rattle.std.proofs.lemmas.Bool.{lt-ltb}
+use Rattle.std.proofs.lemmas.Iterator.{YieldsList-from_range}
+use Rattle.std.proofs.lemmas.Iterator.Consumers.{count_from_yields_List, YieldsList-from_filter}
+use Rattle.std.proofs.lemmas.List.Sums.{length-filter}
+use Rattle.field.specs.Polynomial.{agreements}
+use Rattle.code.specs.Meaning.{agree_at}
+use Rattle.code.specs.Counting.{agreements_listed}
 use Rattle.code.specs.Symbols.{shared_counted, shared_few}
 use Rattle.code.proofs.shared_positions.Goals as goal
-use Rattle.code.proofs.shared_positions.Goals.{then-agree_at, else-agree_at}
+use Rattle.code.proofs.shared_positions.Given as given
 
-pub loop-position-preserved : goal.loop-position-preserved
-loop-position-preserved g c =
+-- what is counted are the positions at which the closure answers yes
+count_is : (g : given.Over) (c : goal.After-count-count g)
+    → c.count-count.result ≡ agreements ((g.C.Code.meaning c.args.code.now).symbol c.args.u) ((g.C.Code.meaning c.args.code.now).symbol c.args.v) c.length.result
+count_is g c =
     let m = g.C.Code.meaning c.args.code.now in
-    let l = c.loop-position in
-    elim c.if-agree_at.branch [
-      | then-agree_at w ↦ (
-        omega (arith, w.count-is),
-        agreements_next (m.symbol c.args.u) (m.symbol c.args.v) l.position l.count _ true l.invariant.1 w.if-agree_at.ensures w.count-is,
-      )
-      | else-agree_at w ↦ (
-        omega (arith, w.count-is),
-        agreements_next (m.symbol c.args.u) (m.symbol c.args.v) l.position l.count _ false l.invariant.1 w.if-agree_at.ensures (w.count-is ∙ omega arith),
-      )
-    ]
+    let test : ℕ → Bool = agree_at m c.args.u c.args.v in
+    let n : ℕ = c.length.result in
+    count_from_yields_List c.filter.result c.count-count.result c.count-count.ensures.ran
+    (YieldsList-from_filter _ test (YieldsList-from_range 0 n n c.filter.ensures.source (omega arith)) c.filter.ensures.closure (λ x b q k. search (rules, tests)))
+    ∙ length-filter test _
+    ∙ omega (
+      arith,
+      agreements_listed (m.symbol c.args.u) (m.symbol c.args.v) test n 0
+          (λ i l. ap (λ (b : Bool). b && (m.symbol c.args.u i == m.symbol c.args.v i)) (lt-ltb i m.length (omega (arith, c.length.ensures)))),
+      ap (agreements (m.symbol c.args.u) (m.symbol c.args.v)) (zero-add n),
+    )
 
-pub returns : goal.returns
-returns g c =
-    let m = g.C.Code.meaning c.args.code.now in
-    let hu : c.args.u < m.users = omega (arith, c.if-u-users.false, c.users.ensures) in
-    let hv : c.args.v < m.users = omega (arith, c.if-v-users.false, c.users-else-u-users.ensures) in
-    let whole : c.loop-position.position ≡ m.length = omega (arith, c.loop-position-test.false, c.length-position-end.ensures) in
-    record {
-      counted = shared_counted m _ _ _ _ hu hv whole c.loop-position.invariant.1;
-      few = shared_few m (g.met.C.Code.lawful c.args.code.now) _ _ _ _ hu hv whole c.loop-position.invariant.1;
-    }
+pub returns-clause-counted : goal.returns-clause-counted
+returns-clause-counted g c =
+    shared_counted (g.C.Code.meaning c.args.code.now) _ _ _ _ (omega (arith, c.if-u-users.false, c.users.ensures))
+    (omega (arith, c.if-v-users.false, c.users-else-u-users.ensures)) c.length.ensures (count_is g c)
+
+pub returns-clause-few : goal.returns-clause-few
+returns-clause-few g c =
+    shared_few (g.C.Code.meaning c.args.code.now) (g.met.C.Code.lawful c.args.code.now) _ _ _ _ (omega (arith, c.if-u-users.false, c.users.ensures))
+    (omega (arith, c.if-v-users.false, c.users-else-u-users.ensures)) c.length.ensures (count_is g c)
