@@ -1,8 +1,9 @@
 -- The digits of a number: how many, how large, and that they tell the number.
 -- Assumes nothing.
-use Rattle.std.specs.Prelude.{◌≡◌, ℕ, zero, suc, ◌+◌, ◌*◌, ◌/◌, ◌%◌, ◌^◌, ◌<◌, List, [], ◌∷◌, ◌++◌, length, slice_index, refl}
+use Rattle.std.specs.Prelude.{◌≡◌, ℕ, zero, suc, ◌+◌, ◌*◌, ◌/◌, ◌%◌, ◌^◌, ◌<◌, [], ◌∷◌, ◌++◌, length, slice_index, refl}
 use Rattle.std.proofs.Common.{sym, ap, ap₂, ◌∙◌, mod-lt, div-add-mod', pow-suc, mul_comm, div-one, arith}
 use Rattle.std.proofs.Math.Nat.{pow-zero, div-div-eq-div-mul}
+use Rattle.std.proofs.Math.Seq.{get_or-append_seam}
 use Rattle.std.proofs.lemmas.Nat.{div_below}
 use Rattle.field.proofs.Numbers.{Below}
 use Rattle.reed_solomon.specs.Polynomials.{digits}
@@ -32,12 +33,8 @@ digits_top q (suc k) u =
     (digits_top q k (u / q)
     ∙ ap (λ (x : ℕ). digits q k (u / q) ++ (x % q ∷ [])) (div-div-eq-div-mul u q (q ^ k) ∙ ap (λ (x : ℕ). u / x) (mul_comm q (q ^ k) ∙ sym (pow-suc q k))))
 
-get_or_last : (xs : List ℕ) (c : ℕ) → slice_index (xs ++ (c ∷ [])) (length xs) ≡ c
-get_or_last [] c = refl
-get_or_last (x ∷ xs) c = get_or_last xs c
-
 pub top_digit : (q k u : ℕ) → slice_index (digits q (suc k) u) k ≡ u / q ^ k % q
 top_digit q k u =
     ap (λ l. slice_index l k) (digits_top q k u)
     ∙ ap (λ (n : ℕ). slice_index (digits q k u ++ (u / q ^ k % q ∷ [])) n) (sym (digits-length q k u))
-    ∙ get_or_last (digits q k u) (u / q ^ k % q)
+    ∙ get_or-append_seam (digits q k u) (u / q ^ k % q) [] 0

@@ -9,9 +9,6 @@ pub loop-step-init : goal.loop-step-init
 unfolding product16
 loop-step-init c = (c.requires.0, lit< tt, refl)
 
-pub shift_16-term-requires : goal.shift_16-term-requires
-shift_16-term-requires c = c.loop-step.invariant.0
-
 pub loop-step-preserved : goal.loop-step-preserved
 loop-step-preserved c =
     let l = c.loop-step in
