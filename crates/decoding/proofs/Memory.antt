@@ -18,8 +18,10 @@ module _ (left size : ℕ) where
   pub deeper_fits : (memory deeper : ℕ) → 1 ≤ left → ¬ (left ≡ 1) → (left - 1) * size ≤ memory → deeper + size ≡ memory → (left - 2) * size ≤ deeper
   deeper_fits memory deeper some more room e = omega (arith, split some more)
 
-  pub deeper_next : (deeper : ℕ) → (left - 2) * size ≤ deeper → (left - 1 - 1) * size ≤ deeper
-  deeper_next deeper h = let e : left - 2 ≡ left - 1 - 1 = omega arith in subst (λ (n : ℕ). n * size ≤ deeper) e h
+  pub deeper_next : (next deeper : ℕ) → next ≡ size → (left - 2) * size ≤ deeper → (left - 1 - 1) * next ≤ deeper
+  deeper_next next deeper same h =
+      let e : left - 2 ≡ left - 1 - 1 = omega arith in
+      subst (λ (n : ℕ). (left - 1 - 1) * n ≤ deeper) (sym same) (subst (λ (n : ℕ). n * size ≤ deeper) e h)
 
 -- what is left of the memory when the chosen coefficients and the first stage have their parts
 pub stages_fit : (a d l memory stages deeper : ℕ) → suc a + suc a * (d * suc l) ≤ memory → stages + (a + 1) ≡ memory → deeper + d * (l + 1) ≡ stages
