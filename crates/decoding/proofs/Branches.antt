@@ -390,18 +390,14 @@ module _ (m : FieldMeaning) (laws : FieldLaws m) (Q Q' : List (List ℕ)) (left 
           sym (take-take n (n + 1) path' (omega arith)) ∙ ap (take n) same ∙ take-take n (n + 1) chosen (omega arith)
           ∙ take-set-le n path n c (omega arith) ∙ state.chosen
 
-      module _ (after : List ℕ) (same-room : length after ≡ length free_below) where
-        pub found_length_below : length (put_mid (count * length path₀) (length found - count * length path₀) found after) ≡ length found₀
-        found_length_below = behind-length (count * length path₀) found after state.progress.2.1 same-room ∙ state.found_length
-
-        pub branch_more : (more : ℕ) → Told m Q' (left - 1) (length chosen) (take (length chosen - (left - 1)) chosen) free_below after (Some more)
-            → Standing m Q left path₀ found₀ (c + 1) (count + more) path' (put_mid (count * length path₀) (length found - count * length path₀) found after)
-        branch_more more told =
-            let new : Written (length path₀) (take (length path₀ - left) path₀ ++ (c ∷ [])) free_below told.0 more after =
-            subst (λ (t : List ℕ). Written (length path₀) t free_below told.0 more after) chosen_front
-            (subst (λ (k : ℕ). Written k (take (length chosen - (left - 1)) chosen) free_below told.0 more after) chosen-length told.2) in
-            standing_more m Q left (omega arith) path₀ found₀ fits c count path found element state told.0 more path' after
-            (continuations told.0 told.1) path_length_below path_below same-room new
+      pub branch_more : (after : List ℕ) → length after ≡ length free_below → (more : ℕ) → Told m Q' (left - 1) (length chosen) (take (length chosen - (left - 1)) chosen) free_below after (Some more)
+          → Standing m Q left path₀ found₀ (c + 1) (count + more) path' (put_mid (count * length path₀) (length found - count * length path₀) found after)
+      branch_more after same-room more told =
+          let new : Written (length path₀) (take (length path₀ - left) path₀ ++ (c ∷ [])) free_below told.0 more after =
+          subst (λ (t : List ℕ). Written (length path₀) t free_below told.0 more after) chosen_front
+          (subst (λ (k : ℕ). Written k (take (length chosen - (left - 1)) chosen) free_below told.0 more after) chosen-length told.2) in
+          standing_more m Q left (omega arith) path₀ found₀ fits c count path found element state told.0 more path' after
+          (continuations told.0 told.1) path_length_below path_below same-room new
 
       pub branch_over : (after : List ℕ) → Told m Q' (left - 1) (length chosen) (take (length chosen - (left - 1)) chosen) free_below after None
           → TooMany m Q left (length path₀) found₀

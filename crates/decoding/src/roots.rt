@@ -27,10 +27,10 @@ fn check<F: Field>(
 ) -> Result<Search, Fault>
     ensures { Answers result (root_rows (F.Field.meaning field.now) a d coefficients.now room memory) (λ s. (s.terms.a ≡ a) × (s.terms.d ≡ d)) }
 {
-    if a < 1 || a > 255 {
+    if !(1..=255).contains(&a) {
         return Err(Fault::DegreeOutOfRange(a));
     }
-    if d < 1 || d > 257 {
+    if !(1..=257).contains(&d) {
         return Err(Fault::BoundOutOfRange(d));
     }
     let search = Search {

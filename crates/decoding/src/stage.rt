@@ -1,6 +1,5 @@
 // A polynomial in x and y, laid out with w powers of y for each of d powers of x, and the steps from one to the next.
 ghost use Rattle.std.specs.Prelude.{◌≡◌, ℕ, suc, ◌+◌, ◌-◌, ◌*◌, ◌<◌, ◌≤◌, ◌↔◌, List, ◌∷◌, length};
-ghost use Rattle.std.specs.List.{AllByRecursion-prop};
 ghost use Rattle.bivariate.specs.Bivariate.{Elements, Root};
 ghost use Rattle.bivariate.specs.Grid.{cell, grid, Weighted, Nonzero};
 ghost use Rattle.bivariate.specs.Steps.{Divided};

@@ -24,7 +24,7 @@ pub fn root_bytes(a: usize, n: usize) -> Option<usize>
     ensures answer { result ≡ bytes_answer a n }
     ensures few { a ≤ 7 → IfSome result (λ bytes. bytes ≤ 8192) }
 {
-    if a < 1 || a > 255 || n > 256 {
+    if !(1..=255).contains(&a) || n > 256 {
         return None;
     }
     let search = Search::for_word(a, n);
@@ -41,7 +41,7 @@ fn check<F: Field>(
 ) -> Result<(), Fault>
     ensures { Answers result (decoding_rows (F.Field.meaning field.now) a word.now room memory) (λ _. Unit {0}) }
 {
-    if a < 1 || a > 255 {
+    if !(1..=255).contains(&a) {
         return Err(Fault::DegreeOutOfRange(a));
     }
     let n = word.len();
