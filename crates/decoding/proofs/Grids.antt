@@ -11,7 +11,7 @@ use Rattle.field.specs.Meaning.{FieldMeaning, FieldLaws}
 use Rattle.bivariate.specs.Bivariate.{Elements}
 use Rattle.bivariate.specs.Grid.{cell, group, shifted}
 use Rattle.bivariate.specs.Steps.{Divided}
-use Rattle.decoding.specs.Stages.{Spread, Indivisible}
+use Rattle.decoding.specs.Stages.{Spread}
 use Rattle.decoding.proofs.Shifts.{shifted-length, shifted-elements}
 
 -- the next row begins where this one ends
@@ -191,12 +191,3 @@ module _ (w d r : ℕ) (before after : List ℕ) (sized : length before ≡ d * 
         wrapped (g * w + j) 0 (omega (arith, along g j, past)) (omega (arith, mul-add-lt g w j d hg hj))
         ∙ ap (λ (k : ℕ). get_or before k 0) (sym first) ∙ divides (g + r - d) j (omega arith) hj;
   }
-
-  pub lowest : (j : ℕ) × (j < w) × ¬ (cell w before r j ≡ 0) → Indivisible w after
-  lowest (j, hj, n) = (
-    j,
-    hj,
-    λ z.
-        let start : 0 + r ≡ r = omega arith in
-        n (sym (divided.moved 0 j (omega arith) hj (omega arith) ∙ ap (λ (k : ℕ). cell w before k j) start) ∙ z),
-  )

@@ -1,15 +1,13 @@
 -- The steps by which a polynomial in y is shifted in place.
 -- Assumes nothing.
-use Rattle.std.proofs.Common.{◌≡◌, ℕ, zero, suc, ◌+◌, ◌-◌, ◌<◌, ◌≤◌, List, [], ◌∷◌, ◌++◌, length, get_or, take, drop, set, Some, Option, sym, refl, ap, ◌∙◌, subst, ap₂, add-one, arith}
+use Rattle.std.proofs.Common.{◌≡◌, ℕ, zero, suc, ◌+◌, ◌-◌, ◌<◌, ◌≤◌, List, [], ◌∷◌, ◌++◌, length, get_or, take, drop, sym, refl, ap, ◌∙◌, subst, ap₂, add-one, arith}
 use native.Mathlib.Decide.{ℕ_discrete}
 use borrow.Rule.Slice.PartMut.{put_mid}
 use Rattle.std.proofs.ByRecursion.{All-get_or, All-drop}
-use Rattle.std.proofs.lemmas.List.{length-set, get_or-set_same, get_or-set_other, ext_get_or, length-drop, length-take-le, append-nil, append_assoc, drop_all, take_all, take_at, drop_at, drop_more, take_more, take_rest}
-use Rattle.std.proofs.lemmas.Bool.{cond-true, and_from, lt-ltb}
+use Rattle.std.proofs.lemmas.List.{ext_get_or, length-drop, length-take-le, append-nil, append_assoc, drop_all, take_all, take_at, drop_at, drop_more, take_more, take_rest}
 use Rattle.field.specs.Meaning.{FieldMeaning, FieldLaws}
 use Rattle.bivariate.specs.Bivariate.{Elements}
 use Rattle.bivariate.specs.Grid.{times_linear, shifted}
-use Rattle.bivariate.specs.Values.{multiply_add_answer}
 
 module _ (m : FieldMeaning) (c : ℕ) where
   pub linear-length : (p : ℕ) (T : List ℕ) → length (times_linear m c p T) ≡ suc (length T)
@@ -31,36 +29,6 @@ module _ (m : FieldMeaning) (c : ℕ) where
       (length now ≡ length p)
       × ((k : ℕ) → k < i → get_or now k 0 ≡ m.sum (get_or p k 0) (m.product c (get_or p (k + 1) 0)))
       × ((k : ℕ) → i ≤ k → get_or now k 0 ≡ get_or p k 0)
-
-  pub linear_more : (p now : List ℕ) (i v : ℕ) → i + 1 < length p → LinearUpTo p i now
-      → v ≡ m.sum (get_or now i 0) (m.product c (get_or now (i + 1) 0)) → LinearUpTo p (i + 1) (set now i v)
-  linear_more p now i v h done is = (length-set now i v ∙ done.0, before, after)
-    where
-      value : v ≡ m.sum (get_or p i 0) (m.product c (get_or p (i + 1) 0))
-      value = is ∙ ap₂ (λ (a b : ℕ). m.sum a (m.product c b)) (done.2 i (omega arith)) (done.2 (i + 1) (omega arith))
-
-      at_place : (k : ℕ) → Dec (k ≡ i) → k < i + 1 → get_or (set now i v) k 0 ≡ m.sum (get_or p k 0) (m.product c (get_or p (k + 1) 0))
-      at_place k (yes e) l =
-          ap (λ (n : ℕ). get_or (set now i v) n 0) e ∙ get_or-set_same now i v 0 (omega (arith, done.0)) ∙ value
-          ∙ ap (λ (n : ℕ). m.sum (get_or p n 0) (m.product c (get_or p (n + 1) 0))) (sym e)
-      at_place k (no n) l = get_or-set_other now i k v 0 n ∙ done.1 k (omega arith)
-
-      before : (k : ℕ) → k < i + 1 → get_or (set now i v) k 0 ≡ m.sum (get_or p k 0) (m.product c (get_or p (k + 1) 0))
-      before k l = at_place k (ℕ_discrete k i) l
-
-      after : (k : ℕ) → i + 1 ≤ k → get_or (set now i v) k 0 ≡ get_or p k 0
-      after k l = get_or-set_other now i k v 0 (λ e. absurd (omega arith)) ∙ done.2 k (omega arith)
-
-  pub linear_reads : (p now : List ℕ) (i k : ℕ) → Elements m p → LinearUpTo p i now → i ≤ k → k < length p → get_or now k 0 < m.size
-  linear_reads p now i k h done l b =
-      subst (λ (x : ℕ). x < m.size) (sym (done.2 k l)) (All-get_or (λ x. x < m.size) p k 0 b h)
-
-  -- what is read are elements, so that the sum and product have an answer
-  pub linear_answered : (p now : List ℕ) (i : ℕ) (r : Option ℕ) → c < m.size → Elements m p → LinearUpTo p i now → i + 1 < length p
-      → r ≡ multiply_add_answer m (get_or now i 0) c (get_or now (i + 1) 0) → r ≡ Some (m.sum (get_or now i 0) (m.product c (get_or now (i + 1) 0)))
-  linear_answered p now i r element h done b e =
-      e ∙ cond-true _ _ _ (and_from _ _ (lt-ltb (get_or now i 0) m.size (linear_reads p now i i h done (omega arith) (omega arith)))
-      (and_from _ _ (lt-ltb c m.size element) (lt-ltb (get_or now (i + 1) 0) m.size (linear_reads p now i (i + 1) h done (omega arith) b))))
 
   whole : (p : List ℕ) → 0 < length p → p ≡ get_or p 0 0 ∷ drop 1 p
   whole [] h = absurd (omega arith)

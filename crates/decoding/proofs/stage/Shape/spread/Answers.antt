@@ -1,16 +1,7 @@
-use Rattle.std.proofs.Common.{◌-◌, arith, rules}
-use Rattle.decoding.proofs.Grids.{source_below, spread_more, spread-all}
+use Rattle.std.proofs.Common.{arith}
+use Rattle.decoding.proofs.Grids.{spread_more, spread-all}
 use Rattle.decoding.proofs.stage.Shape.spread.Goals as goal
 use Rattle.decoding.proofs.stage.Shape.spread.Goals.{then-g-j, else-g-j}
-
-pub overflow_mul-cells : goal.overflow_mul-cells
-overflow_mul-cells c = search (rules, source_below c.args.self.w (c.loop-k.k - 1))
-
-pub overflow_add-cells : goal.overflow_add-cells
-overflow_add-cells c = search (rules, source_below c.args.self.w (c.loop-k.k - 1))
-
-pub bounds-cells-g : goal.bounds-cells-g
-bounds-cells-g c = omega (arith, source_below c.args.self.w (c.loop-k.k - 1), c.loop-k.invariant.0, c.loop-k.auto.cells, c.requires.sized, c.loop-k-test.true)
 
 pub loop-k-preserved : goal.loop-k-preserved
 loop-k-preserved c = (
