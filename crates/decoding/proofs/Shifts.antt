@@ -1,10 +1,9 @@
 -- The steps by which a polynomial in y is shifted in place.
 -- Assumes nothing.
-use Rattle.std.proofs.Common.{◌≡◌, ℕ, zero, suc, ◌+◌, ◌-◌, ◌<◌, ◌≤◌, List, [], ◌∷◌, ◌++◌, length, get_or, take, drop, sym, refl, ap, ◌∙◌, subst, ap₂, add-one, arith}
+use Rattle.std.proofs.Common.{◌≡◌, ℕ, zero, suc, ◌+◌, ◌-◌, ◌<◌, ◌≤◌, List, [], ◌∷◌, ◌++◌, length, get_or, take, drop, sym, refl, ap, ◌∙◌, subst, add-one, arith}
 use native.Mathlib.Decide.{ℕ_discrete}
-use borrow.Rule.Slice.PartMut.{put_mid}
 use Rattle.std.proofs.ByRecursion.{All-get_or, All-drop}
-use Rattle.std.proofs.lemmas.List.{ext_get_or, length-drop, length-take-le, append-nil, append_assoc, drop_all, take_all, take_at, drop_at, drop_more, take_more, take_rest}
+use Rattle.std.proofs.lemmas.List.{ext_get_or, length-take-le, append_assoc, drop_at, take_more, take_rest}
 use Rattle.field.specs.Meaning.{FieldMeaning, FieldLaws}
 use Rattle.bivariate.specs.Bivariate.{Elements}
 use Rattle.bivariate.specs.Grid.{times_linear, shifted}
@@ -58,10 +57,6 @@ module _ (m : FieldMeaning) (c : ℕ) where
   shifted-length [] = refl
   shifted-length (p ∷ P) = linear-length p (shifted m c P) ∙ ap suc (shifted-length P)
 
-  pub shift_none : (P : List ℕ) → P ≡ take (length P) P ++ shifted m c (drop (length P) P)
-  shift_none P =
-      sym (ap₂ (λ (u v : List ℕ). u ++ shifted m c v) (take_all (length P) P (omega arith)) (drop_all (length P) P (omega arith)) ∙ append-nil P)
-
   module _ (laws : FieldLaws m) (element : c < m.size) where
     linear-elements : (p : ℕ) (T : List ℕ) → p < m.size → Elements m T → Elements m (times_linear m c p T)
     linear-elements p [] h k = (h, tt)
@@ -88,21 +83,3 @@ module _ (m : FieldMeaning) (c : ℕ) where
       rest_elements =
           subst (Elements m) (sym rest_is)
           (All-get_or (λ x. x < m.size) P (i - 1) 0 (omega arith) elements, shifted-elements (drop i P) (All-drop (λ x. x < m.size) i P elements))
-
-      pub rest_some : 0 < length (take (length now - (i - 1)) (drop (i - 1) now))
-      rest_some = subst (λ (l : List ℕ). 0 < length l) (sym rest_is) (omega arith)
-
-      pub shift_more : (R : List ℕ)
-          → R ≡ times_linear m c (get_or (take (length now - (i - 1)) (drop (i - 1) now)) 0 0) (drop 1 (take (length now - (i - 1)) (drop (i - 1) now)))
-          → put_mid (i - 1) (length now - (i - 1)) now R ≡ take (i - 1) P ++ shifted m c (drop (i - 1) P)
-      shift_more R r =
-          let done : R ≡ shifted m c (drop (i - 1) P) =
-          r ∙ ap (λ (l : List ℕ). times_linear m c (get_or l 0 0) (drop 1 l)) rest_is
-          ∙ ap (shifted m c) (ap (λ (n : ℕ). get_or P (i - 1) 0 ∷ drop n P) one ∙ sym (drop_more P (i - 1) 0 (omega arith))) in
-          let front : take (i - 1) now ≡ take (i - 1) P = ap (take (i - 1)) split ∙ take_at (take (i - 1) P) _ (i - 1) (length-take-le (i - 1) P (omega arith)) in
-          let gone : drop (length now - (i - 1)) (drop (i - 1) now) ≡ [] =
-          drop_all (length now - (i - 1)) (drop (i - 1) now) (omega (arith, length-drop (i - 1) now)) in
-          ap₂ (λ (u v : List ℕ). u ++ (R ++ v)) front gone ∙ ap (λ (v : List ℕ). take (i - 1) P ++ v) (append-nil R ∙ done)
-        where
-          one : i ≡ i - 1 + 1
-          one = omega arith

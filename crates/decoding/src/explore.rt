@@ -18,7 +18,7 @@ impl<'a, F: Field> Stage<'a, F> {
         (self.field.size() - 1) as u8
     }
 
-    // Whether a root can begin with c: whether the polynomial in y that stands without x is 0 at c.
+    // Whether a root can begin with the element c: whether the polynomial in y that stands without x is 0 at c.
     fn begins(&self, c: u8) -> bool
         requires element { c < (F.Field.meaning self.now.field.now).size }
         ensures yes { result ≡ true → value_at (F.Field.meaning self.now.field.now) (group self.now.shape.w self.now.cells.now 0) c ≡ 0 }
@@ -29,7 +29,8 @@ impl<'a, F: Field> Stage<'a, F> {
 
     // Finds the roots of the polynomial of this stage with `left` coefficients, each behind what was chosen: how many they
     // are, or None where there is no room for all. x does not divide the polynomial, so that what stands without x, which
-    // decides how a root can begin, is not 0. The memory is for the stages below.
+    // decides how a root can begin, is not 0. The memory is for the stages below. As no heap is used, what was chosen stands at
+    // the front of `path`, before the last `left` places, and the roots at the front of `found`.
     pub(crate) fn explore(
         &self,
         left: usize,

@@ -22,7 +22,7 @@ fn enter(room: &mut [u8], f: &[u8]) -> Option<()>
 }
 
 impl<'a, F: Field> Stage<'a, F> {
-    // Whether the polynomial is 0 with c in the place of y: whether each group is 0 at c.
+    // Whether the polynomial is 0 with the element c in the place of y: whether each group is 0 at c.
     fn vanishes(&self, c: u8) -> bool
         requires element { c < (F.Field.meaning self.now.field.now).size }
         ensures yes { result ≡ true → Root (F.Field.meaning self.now.field.now) (grid self.now.shape.w self.now.shape.d self.now.cells.now) (c ∷ []) }

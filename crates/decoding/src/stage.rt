@@ -9,7 +9,8 @@ ghost use Rattle.std.proofs.Props.{props};
 use crate::shift::Shift;
 use field::Field;
 
-// How many powers of y and of x there is room for.
+// How many powers of y and of x there is room for. The numbers are handed to its methods beside it: a type that held them for
+// writing would owe in each method that its shape and its reference stay, two clauses for the one on the length.
 #[derive(Clone, Copy)]
 pub(crate) struct Shape {
     pub(crate) w: usize,
@@ -18,7 +19,8 @@ pub(crate) struct Shape {
     ghost deep: { 1 ≤ d },
 }
 
-// One stage on the way to the roots.
+// One stage on the way to the roots. Its methods are handed c, a candidate for the next coefficient: a type of stage and
+// candidate would be made for each candidate, and be taken apart in each method.
 #[derive(Drop)]
 pub(crate) struct Stage<'a, F: Field> {
     pub(crate) field: &'a F,
@@ -36,12 +38,14 @@ impl Shape {
         ensures elements { Elements (F.Field.meaning shift.now.field.now) cells.new }
         ensures after { Shifted (F.Field.meaning shift.now.field.now) shift.now.c self.w self.d cells.old cells.new }
     {
+        // by index: no clause says what a slice holds after writes to its `chunks_exact_mut`
         for g in 0..self.d {
             shift.apply(&mut cells[g * self.w..g * self.w + self.w]);
         }
     }
 
-    // The coefficient of x^g·y^j goes to x^(g + j)·y^j, from the top down so that none is lost before it has moved.
+    // The coefficient of x^g·y^j goes to x^(g + j)·y^j, from the top down so that none is lost before it has moved, and by
+    // index since each place reads another.
     fn spread(self, cells: &mut [u8])
         requires sized { length cells.old ≡ self.d * self.w }
         ensures after { Spread self.w self.d cells.old cells.new }
@@ -94,7 +98,7 @@ impl Shape {
 }
 
 impl<'a, F: Field> Stage<'a, F> {
-    // The polynomial for the coefficients after c: with c + x·y in the place of y, divided by the highest power of x.
+    // The polynomial for the coefficients after the element c: with c + x·y in the place of y, divided by the highest power of x.
     pub(crate) fn advance(&self, c: u8, next: &mut [u8])
         requires room { length next.old ≡ length self.now.cells.now }
         requires element { c < (F.Field.meaning self.now.field.now).size }

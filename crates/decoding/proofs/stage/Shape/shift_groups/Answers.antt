@@ -1,16 +1,5 @@
-use Rattle.decoding.proofs.Grids.{part_end, part_elements, groups_more}
+use Rattle.decoding.proofs.Grids.{groups_more}
 use Rattle.decoding.proofs.stage.Shape.shift_groups.Goals as goal
-
-pub slice_bounds-apply-end : goal.slice_bounds-apply-end
-slice_bounds-apply-end g c =
-    part_end _ (g.met.F.Field.lawful c.args.shift.now.field.now) c.args.shift.now.c c.args.self.w c.args.self.d c.loop-g.g c.args.shift.now.element c.args.cells.now c.loop-g.cells
-    c.requires.sized c.loop-g-test.true c.loop-g.invariant.0 c.loop-g.invariant.1
-
-pub apply-requires : goal.apply-requires
-apply-requires g c = record {
-  elements = part_elements _ (g.met.F.Field.lawful c.args.shift.now.field.now) c.args.shift.now.c c.args.self.w c.args.self.d c.loop-g.g c.args.shift.now.element c.args.cells.now c.loop-g.cells
-      c.requires.sized c.loop-g-test.true c.loop-g.invariant.0 c.loop-g.invariant.1;
-}
 
 pub loop-g-preserved : goal.loop-g-preserved
 loop-g-preserved g c =
