@@ -1,5 +1,5 @@
 // Finding roots, one coefficient at a time.
-ghost use Rattle.std.specs.Prelude.{◌≡◌, ℕ, suc, ◌+◌, ◌-◌, ◌*◌, ◌<◌, ◌≤◌, true, false, List, [], ◌∷◌, ◌++◌, length, take, drop, MatchOption};
+ghost use Rattle.std.specs.Prelude.{◌≡◌, ℕ, suc, ◌+◌, ◌-◌, ◌*◌, ◌<◌, ◌≤◌, true, false, List, ◌∷◌, length, take};
 ghost use Rattle.field.specs.Polynomial.{value_at};
 ghost use Rattle.bivariate.specs.Bivariate.{Elements, Root};
 ghost use Rattle.bivariate.specs.Grid.{group, grid, Weighted};

@@ -3,7 +3,7 @@ ghost use Rattle.std.specs.Prelude.{◌≡◌, suc, ◌*◌, ◌≤◌, true, le
 ghost use Rattle.refusal.specs.Tables.{Answers};
 ghost use Rattle.bivariate.specs.Bivariate.{points_from};
 ghost use Rattle.bivariate.specs.Terms.{degree_bound};
-ghost use Rattle.decoding.specs.Decoding.{pieces, decoding_bytes, decoding_rows, Decoded, bytes_answer};
+ghost use Rattle.decoding.specs.Decoding.{pieces, decoding_rows, Decoded, bytes_answer};
 
 use crate::roots::find_roots;
 use crate::search::Search;
