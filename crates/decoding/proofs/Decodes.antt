@@ -14,7 +14,6 @@ use Rattle.bivariate.proofs.ForcedRoots.{agreement_forces_root, word_places, wor
 use Rattle.refusal.specs.Tables.{first_refusal}
 use Rattle.refusal.specs.Tables.{within}
 use Rattle.refusal.proofs.Rows.{no_row, no_refusal}
-use Rattle.interpolation.specs.Interpolation.{interpolation_rows}
 use Rattle.interpolation.specs.declared.fault.Fault.{Fault}
 use Rattle.decoding.specs.Decoding.{RootsFound, found_bytes, memory_bytes, decoding_bytes, root_rows, decoding_rows, Decoded}
 use Rattle.decoding.proofs.Inputs.{only_zeros_false}
@@ -57,19 +56,6 @@ module _ (m : FieldMeaning) (laws : FieldLaws m) (a : ℕ) (word : List ℕ) (r 
       let square : (n + 1) * (n + 2) ≡ (n + 1) * (n + 1) + (n + 1) =
       ap (λ (k : ℕ). (n + 1) * k) two ∙ mul-add (n + 1) (n + 1) 1 ∙ ap (λ (k : ℕ). (n + 1) * (n + 1) + k) (mul-one (n + 1)) in
       omega (arith, ok.memory, square)
-
-  pub interpolates_on : (c v : ℕ) → c ≡ length word + 1 → v ≡ (length word + 1) * (length word + 1) → first_refusal (interpolation_rows m a word c v) ≡ None
-  interpolates_on c v e f =
-      no_refusal (interpolation_rows m a word c v) (
-        passed_within 1 a 255 ok.weight ok.light,
-        (
-          le-ltb m.size (length word) ok.places,
-          (
-            le-ltb c (length word + 1) (omega arith),
-            (le-ltb v ((length word + 1) * (length word + 1)) (omega arith), (ap not (elements_only_lem m word ok.elements), tt)),
-          ),
-        ),
-      )
 
   module _ (d : ℕ) (cs : List ℕ) (is : d ≡ degree_bound a (length word)) (sized : length cs ≡ length word + 1)
       (fits : Interpolates m a d (points_from 0 word) (polynomial a d (take (length word + 1) cs))) where

@@ -1,89 +1,73 @@
 -- What is read of a group, and what is entered behind the polynomials that were found.
 -- Assumes nothing.
-use Rattle.std.proofs.Common.{◌≡◌, ℕ, ◌+◌, ◌-◌, ◌*◌, ◌<◌, ◌≤◌, List, [], ◌∷◌, ◌++◌, length, take, drop, sym, ap, ◌∙◌, ap₂, suc-mul, mul_comm, mul-le-mul_left, zero-mul, mul-one, add-one, arith}
-use borrow.Rule.Slice.PartMut.{put_mid}
+use Rattle.std.proofs.Common.{◌≡◌, ℕ, suc, ◌+◌, ◌*◌, ◌/◌, ◌<◌, ◌≤◌, ◌↔◌, Bool, true, eqb, List, [], ◌∷◌, length, take, drop, Some, None, Option, subst, refl, sym, ap, ◌∙◌, suc-mul, mul_comm, zero-mul, arith}
+use denote.Ref.{Bor}
+use Rattle.std.specs.Option.{IfSome, IsSomeAnd, option_eq, option_map}
+use Rattle.std.specs.List.{IsSubsliceAt, slice_index_or}
+use Rattle.std.specs.Iterator.Runs.{Run, AllItems, AnyItem, IsChunksExactRun}
+use Rattle.std.proofs.Math.Nat.{mul-div_cancel}
+use Rattle.std.proofs.lemmas.Nat.{le-div}
 use Rattle.std.proofs.ByRecursion.{All-take, All-drop}
-use Rattle.std.proofs.lemmas.List.{length-append, length-take-le, length-drop}
-use Rattle.std.proofs.lemmas.Slice.{take-put_mid, drop-put_mid}
 use Rattle.field.specs.Meaning.{FieldMeaning, FieldLaws}
 use Rattle.field.specs.Polynomial.{value_at}
 use Rattle.bivariate.specs.Bivariate.{Elements, Root}
 use Rattle.bivariate.specs.Grid.{group, grid}
+use Rattle.bivariate.specs.Values.{value_answer}
+use Rattle.bivariate.proofs.ValueSteps.{value_answered}
 use Rattle.bivariate.proofs.GridRoots.{root_first, root_one}
-use Rattle.decoding.proofs.Grids.{next_row}
-
-pub group_end : (g w d : ℕ) (cs : List ℕ) → length cs ≡ d * w → g < d → g * w + w ≤ length cs
-group_end g w d cs e h = omega (arith, next_row g d w h)
-
-pub part_group : (g w : ℕ) (cs : List ℕ) → take (g * w + w - g * w) (drop (g * w) cs) ≡ group w cs g
-part_group g w cs = let e : g * w + w - g * w ≡ w = omega arith in ap (λ (n : ℕ). take n (drop (g * w) cs)) e
-
-pub part_elements : (m : FieldMeaning) (n k : ℕ) (cs : List ℕ) → Elements m cs → Elements m (take n (drop k cs))
-part_elements m n k cs h =
-    All-take (λ x. x < m.size) n (drop k cs) (All-drop (λ x. x < m.size) k cs h)
 
 module _ (m : FieldMeaning) (laws : FieldLaws m) (w d c : ℕ) (cs : List ℕ) (elements : Elements m cs) (element : c < m.size) (sized : length cs ≡ d * w) where
-  pub all_vanish : (n : ℕ) → d ≤ n → ((g : ℕ) → g < n → value_at m (group w cs g) c ≡ 0) → Root m (grid w d cs) (c ∷ [])
-  all_vanish n l h = (root_one m laws w d cs c elements element (sized ∙ mul_comm d w)).1 (λ g k. h g (omega arith))
+  -- c is a root exactly if each group is 0 at c
+  pub root_by_groups : Root m (grid w d cs) (c ∷ []) ↔ ((g : ℕ) → g < d → value_at m (group w cs g) c ≡ 0)
+  root_by_groups = root_one m laws w d cs c elements element (sized ∙ mul_comm d w)
 
-  pub one_stays : (g : ℕ) → g < d → ¬ (value_at m (take (g * w + w - g * w) (drop (g * w) cs)) c ≡ 0) → ¬ (Root m (grid w d cs) (c ∷ []))
-  one_stays g h n r =
-      n (ap (λ (p : List ℕ). value_at m p c) (part_group g w cs) ∙ (root_one m laws w d cs c elements element (sized ∙ mul_comm d w)).0 r g h)
+  -- where what stands without x is not 0 at c, no root begins with c
+  pub no_beginning : 1 ≤ d → ¬ (value_at m (group w cs 0) c ≡ 0) → (g : List ℕ) → Elements m g → Root m (grid w d cs) (c ∷ g) → ⊥
+  no_beginning some n g h r = n (root_first m laws w d cs c g elements element h (sized ∙ mul_comm d w) some r)
 
-  first_group : take (w - 0) (drop 0 cs) ≡ group w cs 0
-  first_group =
-      let wide : w - 0 ≡ w = omega arith in
-      let start : 0 ≡ 0 * w = omega (arith, zero-mul w) in
-      ap₂ (λ (k s : ℕ). take k (drop s cs)) wide start
+pub first_group : (w : ℕ) (cs : List ℕ) → take w cs ≡ group w cs 0
+first_group w cs = ap (λ (s : ℕ). take w (drop s cs)) (sym (zero-mul w))
 
-  module _ (v : ℕ) (value : v ≡ value_at m (take (w - 0) (drop 0 cs)) c) where
-    pub beginning : v ≡ 0 → value_at m (group w cs 0) c ≡ 0
-    beginning e = sym (ap (λ (p : List ℕ). value_at m p c) first_group) ∙ sym value ∙ e
+-- there are d groups
+pub group-count : (w d : ℕ) (cs : List ℕ) → 1 ≤ w → length cs ≡ d * w → length cs / w ≡ d
+group-count w d cs h e = ap (λ (n : ℕ). n / w) e ∙ mul-div_cancel d h
 
-    -- where what stands without x is not 0 at c, no root begins with c
-    pub no_beginning : 1 ≤ d → ¬ (v ≡ 0) → (g : List ℕ) → Elements m g → Root m (grid w d cs) (c ∷ g) → ⊥
-    no_beginning some n g h r =
-        n (value ∙ ap (λ (p : List ℕ). value_at m p c) first_group ∙ root_first m laws w d cs c g elements element h (sized ∙ mul_comm d w) some r)
+pub group_below : (w d g : ℕ) (cs : List ℕ) → 1 ≤ w → length cs ≡ d * w → g * w + w ≤ length cs → g < d
+group_below w d g cs h e l = omega (arith, le-div (suc g) (length cs) w h (omega (arith, suc-mul g w, l)), group-count w d cs h e)
 
--- ---- one more polynomial
+-- ---- a value that is asked for 0
 
-module _ (found f : List ℕ) (count : ℕ) (counted : count * length f ≤ length found) (some : 0 < length f)
-    (room : length f ≤ length found - count * length f) where
-  more : (count + 1) * length f ≡ count * length f + length f
-  more = ap (λ (n : ℕ). n * length f) (add-one count) ∙ suc-mul count (length f)
+-- whether the answer for the part of a list is 0 says whether the value is
+pub zero_answered : (m : FieldMeaning) (p q : List ℕ) (c : ℕ) (b : Bool) → p ≡ q → Elements m q → c < m.size
+    → b ≡ option_eq eqb (value_answer m p c) (Some 0) → b ≡ eqb (value_at m q c) 0
+zero_answered m p q c b same h l e =
+    e ∙ ap (λ (o : Option ℕ). option_eq eqb o (Some 0)) (ap (λ (k : List ℕ). value_answer m k c) same ∙ value_answered m q c h l)
 
-  pub entered_within : (count + 1) * length f ≤ length found
-  entered_within = omega (arith, more)
+pub group-elements : (m : FieldMeaning) (w g : ℕ) (cs : List ℕ) → Elements m cs → Elements m (group w cs g)
+group-elements m w g cs h = All-take (λ x. x < m.size) w (drop (g * w) cs) (All-drop (λ x. x < m.size) (g * w) cs h)
 
-  pub count_within : count + 1 ≤ length found
-  count_within =
-      let e : (count + 1) * 1 ≤ (count + 1) * length f = mul-le-mul_left (count + 1) some in
-      omega (arith, e, entered_within, mul-one (count + 1))
+-- what `all` went over: the groups of a list
+module _ {S : Type 0} {steps : S → Option (Bor (List ℕ)) → S → Type 0} (p : Run steps) (any : Bor (List ℕ)) (w : ℕ) (cs : List ℕ) (groups : IsChunksExactRun p w cs)
+    (Passes : Bor (List ℕ) → Type 0) where
+  here : (g : ℕ) (x : Bor (List ℕ)) → p.at g ≡ Some x → (g * w + w ≤ length cs) × (x.now ≡ group w cs g)
+  here g x e =
+      let k = subst (λ (o : Option (Bor (List ℕ))). IfSome o (λ y. (length y.now ≡ w) × (g * w + w ≤ length cs) × IsSubsliceAt w cs (g * w) y.now)) e (groups.2 g) in
+      (k.1, k.2.0)
 
-  abbrev after : List ℕ → List ℕ
-  after now = put_mid (count * length f) (count * length f + length f - count * length f) found now
+  -- where all passed, each group did
+  pub each_passed : p.whole ≡ true → AllItems p Passes → (g : ℕ) → g < length cs / w → (x : Bor (List ℕ)) × (x.now ≡ group w cs g) × Passes x
+  each_passed whole passed g h = by (p.at g) refl
+    where
+      by : (o : Option (Bor (List ℕ))) → p.at g ≡ o → (x : Bor (List ℕ)) × (x.now ≡ group w cs g) × Passes x
+      by None e =
+          let k : option_map (λ (y : Bor (List ℕ)). y) (p.at g) ≡ Some (slice_index_or p.items g any) = p.reads g any (omega (arith, groups.1 whole)) in
+          absurd cc
+      by (Some x) e = (x, (here g x e).1, subst (λ (o : Option (Bor (List ℕ))). IfSome o Passes) e (passed g))
 
-  rest : List ℕ
-  rest = drop (count * length f + length f - count * length f) (drop (count * length f) found)
-
-  pub entered_length : (now : List ℕ) → now ≡ f → length (after now) ≡ length found
-  unfolding rest
-  entered_length now e =
-      length-append (take (count * length f) found) (now ++ rest)
-      ∙ omega (
-        arith,
-        length-append now rest,
-        ap length e,
-        length-take-le (count * length f) found counted,
-        length-drop (count * length f + length f - count * length f) (drop (count * length f) found),
-        length-drop (count * length f) found,
-      )
-
-  pub entered_front : (now : List ℕ) → now ≡ f → take ((count + 1) * length f) (after now) ≡ take (count * length f) found ++ f
-  entered_front now e =
-      take-put_mid (count * length f) _ found now ((count + 1) * length f) (more ∙ ap (λ (n : ℕ). count * length f + n) (sym (ap length e))) counted
-      ∙ ap (λ (l : List ℕ). take (count * length f) found ++ l) e
-
-  pub entered_beyond : (now : List ℕ) → now ≡ f → drop ((count + 1) * length f) (after now) ≡ drop ((count + 1) * length f) found
-  entered_beyond now e =
-      drop-put_mid (count * length f) _ found now ((count + 1) * length f) (omega (arith, more)) counted (ap length e ∙ omega arith)
+  -- one that passed is a group
+  pub some_passed : AnyItem p Passes → (g : ℕ) × (g * w + w ≤ length cs) × (x : Bor (List ℕ)) × (x.now ≡ group w cs g) × Passes x
+  some_passed (g, l, passed) = by (p.at g) refl
+    where
+      by : (o : Option (Bor (List ℕ))) → p.at g ≡ o → (g : ℕ) × (g * w + w ≤ length cs) × (x : Bor (List ℕ)) × (x.now ≡ group w cs g) × Passes x
+      by None e = absurd (subst (λ (o : Option (Bor (List ℕ))). IsSomeAnd o Passes) e passed)
+      by (Some x) e = (g, (here g x e).0, x, (here g x e).1, subst (λ (o : Option (Bor (List ℕ))). IsSomeAnd o Passes) e passed)

@@ -1,6 +1,6 @@
 -- The first stage of the search: the polynomial laid out in a grid and divided by a power of x.
 -- Assumes nothing.
-use Rattle.std.proofs.Common.{◌≡◌, ℕ, zero, suc, ◌+◌, ◌-◌, ◌*◌, ◌/◌, ◌<◌, ◌≤◌, ◌↔◌, List, [], ◌∷◌, length, get_or, take, drop, Some, None, Option, sym, refl, ap, ◌∙◌, subst, add-one, arith}
+use Rattle.std.proofs.Common.{◌≡◌, ℕ, zero, suc, ◌+◌, ◌-◌, ◌*◌, ◌<◌, ◌≤◌, ◌↔◌, List, [], ◌∷◌, length, get_or, take, drop, Some, None, Option, sym, refl, ap, ◌∙◌, subst, add-one, arith}
 use Rattle.std.specs.List.{AllByRecursion}
 use Rattle.std.proofs.ByRecursion.{All-weaker}
 use Rattle.std.proofs.lemmas.List.{length-take}
@@ -43,9 +43,9 @@ module _ (m : FieldMeaning) (Q Q' : List (List ℕ)) (same : (f : List ℕ) → 
   root_here : (k : ℕ) (f : List ℕ) → RootWith m Q' k f → RootWith m Q k f
   root_here k f r = record { coefficients = r.coefficients; elements = r.elements; root = (same f r.elements).1 r.root }
 
-  told_by : (left k : ℕ) (chosen : List ℕ) (count : ℕ) (before after : List ℕ) (r : Option ℕ)
-      → Told m Q' left k chosen count before after r → Told m Q left k chosen count before after r
-  told_by left k chosen count before after (Some n) (fs, roots, written) = (
+  told_by : (left k : ℕ) (chosen before after : List ℕ) (r : Option ℕ)
+      → Told m Q' left k chosen before after r → Told m Q left k chosen before after r
+  told_by left k chosen before after (Some n) (fs, roots, written) = (
     fs,
     record {
       alone = All-weaker (λ f. RootWith m Q' left f × (get_or f 0 0 < m.size)) (λ f. RootWith m Q left f × (get_or f 0 0 < m.size)) (λ f r. (root_here left f r.0, r.1)) fs roots.alone;
@@ -54,20 +54,17 @@ module _ (m : FieldMeaning) (Q Q' : List (List ℕ)) (same : (f : List ℕ) → 
     },
     written,
   )
-  told_by left k chosen count before after None (fs, alone, once, over) =
+  told_by left k chosen before after None (fs, alone, once, over) =
       (fs, All-weaker (RootWith m Q' left) (RootWith m Q left) (root_here left) fs alone, once, over)
 
 -- ---- the first stage
 
 module _ (m : FieldMeaning) (laws : FieldLaws m) (a d : ℕ) (cs : List ℕ) (weight : 1 ≤ a) (degree : 1 ≤ d) (terms : length cs ≤ term_count a d) (elements : Elements m cs)
-    (nonzero : ¬ (Zeros cs)) (stage : List ℕ) where
-  abbrev w : ℕ
-  w = (d - 1) / a + 1
-
+    (nonzero : ¬ (Zeros cs)) (w : ℕ) (stage : List ℕ) where
   abbrev Q : List (List ℕ)
   Q = polynomial a d cs
 
-  module _ (sized : length stage ≡ d * w) (cells : (g j : ℕ) → g < d → j < w → cell w stage g j ≡ coefficient Q g j) where
+  module _ (wide : w ≡ most_y a d + 1) (sized : length stage ≡ d * w) (cells : (g j : ℕ) → g < d → j < w → cell w stage g j ≡ coefficient Q g j) where
     rows : length Q ≤ w
     rows = omega (arith, by_powers-length a d (suc (most_y a d)) cs)
 
@@ -117,11 +114,11 @@ module _ (m : FieldMeaning) (laws : FieldLaws m) (a d : ℕ) (cs : List ℕ) (we
 
       -- with all coefficients still to be chosen
       pub first_told : (path before after : List ℕ) (n : Option ℕ) → length path ≡ a + 1
-          → Told m (grid w d next) (a + 1) (length path) (take (length path - (a + 1)) path) 0 before after n → Told m Q (suc a) (suc a) [] 0 before after n
+          → Told m (grid w d next) (a + 1) (length path) (take (length path - (a + 1)) path) before after n → Told m Q (suc a) (suc a) [] before after n
       first_told path before after n e told =
           let one : length path ≡ suc a = e ∙ add-one a in
           let none : length path - (a + 1) ≡ 0 = omega arith in
-          told_by m Q (grid w d next) next_roots (suc a) (suc a) [] 0 before after n
-          (subst (λ (k : ℕ). Told m (grid w d next) (suc a) k [] 0 before after n) one
-          (subst (λ (k : ℕ). Told m (grid w d next) k (length path) [] 0 before after n) (add-one a)
-          (subst (λ (k : ℕ). Told m (grid w d next) (a + 1) (length path) (take k path) 0 before after n) none told)))
+          told_by m Q (grid w d next) next_roots (suc a) (suc a) [] before after n
+          (subst (λ (k : ℕ). Told m (grid w d next) (suc a) k [] before after n) one
+          (subst (λ (k : ℕ). Told m (grid w d next) k (length path) [] before after n) (add-one a)
+          (subst (λ (k : ℕ). Told m (grid w d next) (a + 1) (length path) (take k path) before after n) none told)))

@@ -1,16 +1,16 @@
 -- What is known where the search does not refuse, and what then stands in the memory for the roots.
 -- Assumes nothing.
-use Rattle.std.proofs.Common.{◌≡◌, ℕ, suc, ◌+◌, ◌-◌, ◌*◌, ◌<◌, ◌≤◌, leb, List, [], ◌∷◌, ◌++◌, length, get_or, take, drop, Some, None, sym, refl, ap, ◌∙◌, subst, ap₂, mul-le-mul_right, suc-mul, zero-mul, arith}
+use Rattle.std.proofs.Common.{◌≡◌, ℕ, suc, ◌+◌, ◌*◌, ◌<◌, ◌≤◌, leb, List, [], ◌∷◌, ◌++◌, length, get_or, take, drop, Some, None, Option, sym, refl, ap, ◌∙◌, subst, ap₂, mul-le-mul_right, suc-mul, arith}
+use Rattle.std.specs.Option.{IsSome}
 use Rattle.std.specs.List.{flat_map, AllByRecursion}
 use Rattle.std.proofs.ByRecursion.{All-weaker}
-use Rattle.std.proofs.lemmas.List.{take-take, take_at, take-append-le, drop_at, drop-take, drop-append-le, take-append-drop}
+use Rattle.std.proofs.lemmas.List.{take-take, take_at, drop_at, drop-take}
 use Rattle.std.proofs.lemmas.Bool.{not-false, and_parts, leb-true, ltb-false}
 use Rattle.field.specs.Meaning.{FieldMeaning, FieldLaws}
 use Rattle.bivariate.specs.Bivariate.{Elements, Zeros, Distinct}
 use Rattle.bivariate.specs.Terms.{term_count, most_y, polynomial}
 use Rattle.bivariate.specs.Values.{elements_only}
 use Rattle.bivariate.proofs.ElementTests.{elements_from}
-use Rattle.bivariate.proofs.WrittenFronts.{front_length}
 use Rattle.refusal.specs.Tables.{first_refusal}
 use Rattle.refusal.specs.Tables.{within}
 use Rattle.refusal.proofs.Rows.{no_row}
@@ -60,46 +60,37 @@ split_pieces k (f ∷ fs) l h e =
     sym (drop-take k (length fs * k) l) ∙ ap (drop k) whole ∙ drop_at f _ k h.0 in
     ap₂ (λ (u : List ℕ) (v : List (List ℕ)). u ∷ v) first (split_pieces k fs (drop k l) h.1 rest)
 
-module _ (m : FieldMeaning) (laws : FieldLaws m) (a d : ℕ) (cs found part : List ℕ) (R : ℕ) (bytes : R ≡ found_bytes a d) (room : R ≤ length found) (same : length part ≡ R)
+module _ (m : FieldMeaning) (laws : FieldLaws m) (a d : ℕ) (cs found : List ℕ) (room : found_bytes a d ≤ length found)
     (few : (fs : List (List ℕ)) → AllByRecursion (RootWith m (polynomial a d cs) (suc a)) fs → Distinct fs → length fs ≤ most_y a d) where
   below_size : (f : List ℕ) → Elements m f → get_or f 0 0 < m.size
   below_size [] h = omega (arith, laws.size_low)
   below_size (x ∷ f) h = h.0
 
   -- there is room for all
-  pub never_full : TooMany m (polynomial a d cs) (suc a) (suc a) 0 (take (R - 0) found) → ⊥
+  pub never_full : TooMany m (polynomial a d cs) (suc a) (suc a) found → ⊥
   never_full (fs, roots, once, over) =
-      let most : length fs ≤ most_y a d = few fs roots once in
-      let bound : (0 + length fs) * suc a ≤ most_y a d * suc a = mul-le-mul_right (suc a) (omega arith) in
-      omega (arith, over, bound, bytes, front_length R found room)
+      let bound : length fs * suc a ≤ most_y a d * suc a = mul-le-mul_right (suc a) (few fs roots once) in
+      omega (arith, over, bound)
 
-  abbrev after : List ℕ
-  after = part ++ drop (R - 0) found
+  pub always_some : (after : List ℕ) (r : Option ℕ) → Told m (polynomial a d cs) (suc a) (suc a) [] found after r → IsSome r
+  always_some after (Some n) told = refl
+  always_some after None told = absurd (never_full told)
 
-  module _ (n : ℕ) (told : Told m (polynomial a d cs) (suc a) (suc a) [] 0 (take (R - 0) found) part (Some n)) where
+  module _ (n : ℕ) (after : List ℕ) (told : Told m (polynomial a d cs) (suc a) (suc a) [] found after (Some n)) where
     fs : List (List ℕ)
     fs = told.0
-
-    counted : n ≡ length fs
-    unfolding fs
-    counted = omega (arith, told.2.0)
 
     alone : AllByRecursion (RootWith m (polynomial a d cs) (suc a)) fs
     unfolding fs
     alone =
         All-weaker (λ f. RootWith m (polynomial a d cs) (suc a) f × (get_or f 0 0 < m.size)) (RootWith m (polynomial a d cs) (suc a)) (λ f r. r.0) told.0 told.1.alone
 
-    written : take (n * suc a) after ≡ flat_map (λ f. [] ++ f) fs
-    unfolding fs
-    written =
-        take-append-le (n * suc a) part _ told.2.1 ∙ told.2.2
-        ∙ ap (λ (k : ℕ). take k (take (R - 0) found) ++ flat_map (λ f. [] ++ f) told.0) (zero-mul (suc a))
-
     taken_apart : pieces (suc a) n after ≡ fs
+    unfolding fs
     taken_apart =
-        ap (λ (k : ℕ). pieces (suc a) k after) counted
+        ap (λ (k : ℕ). pieces (suc a) k after) told.2.0
         ∙ split_pieces (suc a) fs after (All-weaker (RootWith m (polynomial a d cs) (suc a)) (λ f. length f ≡ suc a) (λ f r. r.coefficients) fs alone)
-        (ap (λ (k : ℕ). take (k * suc a) after) (sym counted) ∙ written)
+        (ap (λ (k : ℕ). take (k * suc a) after) (sym told.2.0) ∙ told.2.2)
 
     pub roots_found : RootsFound m (polynomial a d cs) (suc a) (most_y a d) (pieces (suc a) n after)
     unfolding fs
@@ -109,11 +100,3 @@ module _ (m : FieldMeaning) (laws : FieldLaws m) (a d : ℕ) (cs found part : Li
       once = told.1.once;
       few = few told.0 alone told.1.once;
     }
-
-    pub beyond : drop (n * suc a) after ≡ drop (n * suc a) found
-    beyond =
-        let long : length (take (R - 0) found) ≡ length part = front_length R found room ∙ sym same in
-        drop-append-le (n * suc a) part (drop (R - 0) found) told.2.1
-        ∙ ap (λ (l : List ℕ). l ++ drop (R - 0) found) told.2.3
-        ∙ sym (drop-append-le (n * suc a) (take (R - 0) found) (drop (R - 0) found) (subst (λ (k : ℕ). n * suc a ≤ k) (sym long) told.2.1))
-        ∙ ap (drop (n * suc a)) (take-append-drop (R - 0) found)

@@ -3,15 +3,15 @@
 use Rattle.std.proofs.Common.{◌≡◌, ℕ, suc, ◌+◌, ◌-◌, ◌*◌, ◌/◌, ◌%◌, ◌<◌, ◌≤◌, ◌≢◌, List, ◌++◌, length, get_or, take, drop, set, sym, ap, ◌∙◌, subst, ap₂, mul-le-mul_right, suc-mul, add-mul, arith}
 use native.Mathlib.Decide.{ℕ_discrete, dec_le}
 use borrow.Rule.Slice.PartMut.{put_mid}
-use Rattle.std.proofs.lemmas.Nat.{mul-add-lt, div-mul-add, mod-mul-add, div_below, mod_below, div-add-mod'}
+use Rattle.std.proofs.lemmas.Nat.{mul-add-lt, div-mul-add, mod-mul-add, div-add-mod'}
 use Rattle.std.proofs.ByRecursion.{All-take, All-drop, All-append}
 use Rattle.std.proofs.lemmas.List.{length-set, get_or-set_same, get_or-set_other, length-take-le, length-drop, length-append, take_at, drop_at, drop-take}
 use Rattle.std.proofs.lemmas.Slice.{take-put_mid_below, drop-put_mid}
 use Rattle.field.specs.Meaning.{FieldMeaning, FieldLaws}
 use Rattle.bivariate.specs.Bivariate.{Elements}
-use Rattle.bivariate.specs.Grid.{cell, group, shifted, Nonzero}
+use Rattle.bivariate.specs.Grid.{cell, group, shifted}
 use Rattle.bivariate.specs.Steps.{Divided}
-use Rattle.decoding.specs.Stages.{Spread, Indivisible}
+use Rattle.decoding.specs.Stages.{Spread}
 use Rattle.decoding.proofs.Shifts.{shifted-length, shifted-elements}
 
 -- the next row begins where this one ends
@@ -172,28 +172,6 @@ spread-all w d k before now end done = record {
 
 -- ---- the highest power of x goes
 
-module _ (w d n : ℕ) (cs : List ℕ) (sized : length cs ≡ d * w) (nonzero : Nonzero w d cs)
-    (zeros : (k : ℕ) → k < n → get_or cs k 0 ≡ 0) (there : n < length cs → ¬ (get_or cs n 0 ≡ 0)) where
-  pub wide : 0 < w
-  wide = let j : nonzero.1 < w = nonzero.3 in omega arith
-
-  -- the number that is known not to be 0 does not stand before n
-  found : n < length cs
-  found = by (dec_le (suc n) (length cs))
-    where
-      by : Dec (n < length cs) → n < length cs
-      by (yes l) = l
-      by (no l) = absurd (nonzero.4 (zeros (nonzero.0 * w + nonzero.1) (omega (arith, mul-add-lt nonzero.0 w nonzero.1 d nonzero.2 nonzero.3))))
-
-  pub power_below : n / w < d
-  power_below = div_below n w d wide (omega (arith, found))
-
-  pub power_divides : (g j : ℕ) → g < n / w → j < w → cell w cs g j ≡ 0
-  power_divides g j hg hj = zeros (g * w + j) (omega (arith, next_row g (n / w) w hg, div-add-mod' n w))
-
-  pub power_highest : (j : ℕ) × (j < w) × ¬ (cell w cs (n / w) j ≡ 0)
-  power_highest = (n % w, mod_below n w wide, λ z. there found (sym (ap (λ (k : ℕ). get_or cs k 0) (div-add-mod' n w)) ∙ z))
-
 module _ (w d r : ℕ) (before after : List ℕ) (sized : length before ≡ d * w) (low : r < d) (divides : (g j : ℕ) → g < r → j < w → cell w before g j ≡ 0)
     (moved : (k e : ℕ) → k + r * w < length before → get_or after k e ≡ get_or before (k + r * w) e)
     (wrapped : (k e : ℕ) → length before ≤ k + r * w → k < length before → get_or after k e ≡ get_or before (k + r * w - length before) e) where
@@ -213,12 +191,3 @@ module _ (w d r : ℕ) (before after : List ℕ) (sized : length before ≡ d * 
         wrapped (g * w + j) 0 (omega (arith, along g j, past)) (omega (arith, mul-add-lt g w j d hg hj))
         ∙ ap (λ (k : ℕ). get_or before k 0) (sym first) ∙ divides (g + r - d) j (omega arith) hj;
   }
-
-  pub lowest : (j : ℕ) × (j < w) × ¬ (cell w before r j ≡ 0) → Indivisible w after
-  lowest (j, hj, n) = (
-    j,
-    hj,
-    λ z.
-        let start : 0 + r ≡ r = omega arith in
-        n (sym (divided.moved 0 j (omega arith) hj (omega arith) ∙ ap (λ (k : ℕ). cell w before k j) start) ∙ z),
-  )

@@ -1,36 +1,13 @@
 -- What the tests before the search, and the lay-out of its first stage, work out.
 -- Assumes nothing.
-use Rattle.std.proofs.Common.{◌≡◌, ℕ, ◌+◌, ◌*◌, ◌/◌, ◌%◌, ◌<◌, ◌≤◌, Bool, true, false, ◌&&◌, eqb, List, [], ◌∷◌, length, get_or, drop, sym, refl, ap, ◌∙◌, ap₂, div-le_self, add-one, arith}
+use Rattle.std.proofs.Common.{◌≡◌, ℕ, ◌+◌, ◌*◌, ◌/◌, ◌%◌, ◌<◌, ◌≤◌, Bool, true, false, ◌&&◌, eqb, List, [], ◌∷◌, get_or, sym, refl, ◌∙◌, ap₂, arith}
 use Rattle.std.proofs.lemmas.Nat.{mul-add-lt, div-mul-add, mod-mul-add}
-use Rattle.std.proofs.lemmas.List.{at_drop_more, at_drop_all}
-use Rattle.std.proofs.lemmas.Bool.{eq-eqb, ne_eqb, eqb-true, and_left, and_parts}
+use Rattle.std.proofs.lemmas.Bool.{eq-eqb, eqb-true, and_parts}
 use Rattle.bivariate.specs.Bivariate.{Zeros, coefficient}
 use Rattle.bivariate.specs.Grid.{cell}
-use Rattle.bivariate.specs.Terms.{term_count}
-use Rattle.bivariate.proofs.Degrees.{term_count_more}
 use Rattle.decoding.specs.Decoding.{only_zeros}
 
--- ---- the number of terms
-
-pub terms_more : (a e count : ℕ) → 1 ≤ a → e < 257 → (count ≡ term_count a e) × (count ≤ e * 258)
-    → (count + (e / a + 1) ≡ term_count a (e + 1)) × (count + (e / a + 1) ≤ (e + 1) * 258)
-terms_more a e count h l known = (
-  ap (λ (n : ℕ). n + (e / a + 1)) known.0 ∙ sym (term_count_more a e h) ∙ ap (term_count a) (sym (add-one e)),
-  omega (arith, known.1, div-le_self e a),
-)
-
 -- ---- whether all are 0
-
-module _ (cs : List ℕ) (i : ℕ) (left : only_zeros (drop i cs) ≡ only_zeros cs) where
-  pub zeros_more : i < length cs → get_or cs i 0 ≡ 0 → only_zeros (drop (i + 1) cs) ≡ only_zeros cs
-  zeros_more h e =
-      sym (ap (λ t. t && only_zeros (drop (i + 1) cs)) (eq-eqb (get_or cs i 0) 0 e)) ∙ sym (at_drop_more only_zeros cs i 0 h) ∙ left
-
-  pub zeros_refused : i < length cs → ¬ (get_or cs i 0 ≡ 0) → false ≡ only_zeros cs
-  zeros_refused h n = sym (at_drop_more only_zeros cs i 0 h ∙ and_left _ _ (ne_eqb (get_or cs i 0) 0 n)) ∙ left
-
-  pub zeros_all : length cs ≤ i → true ≡ only_zeros cs
-  zeros_all h = sym (at_drop_all only_zeros cs i h) ∙ left
 
 pub zeros_true : (cs : List ℕ) → Zeros cs → only_zeros cs ≡ true
 zeros_true [] h = refl

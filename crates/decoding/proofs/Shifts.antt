@@ -1,10 +1,9 @@
 -- The steps by which a polynomial in y is shifted in place.
 -- Assumes nothing.
-use Rattle.std.proofs.Common.{◌≡◌, ℕ, zero, suc, ◌+◌, ◌-◌, ◌<◌, ◌≤◌, List, [], ◌∷◌, ◌++◌, length, get_or, take, drop, set, sym, refl, ap, ◌∙◌, subst, ap₂, add-one, arith}
+use Rattle.std.proofs.Common.{◌≡◌, ℕ, zero, suc, ◌+◌, ◌-◌, ◌<◌, ◌≤◌, List, [], ◌∷◌, ◌++◌, length, get_or, take, drop, sym, refl, ap, ◌∙◌, subst, add-one, arith}
 use native.Mathlib.Decide.{ℕ_discrete}
-use borrow.Rule.Slice.PartMut.{put_mid}
 use Rattle.std.proofs.ByRecursion.{All-get_or, All-drop}
-use Rattle.std.proofs.lemmas.List.{length-set, get_or-set_same, get_or-set_other, ext_get_or, length-drop, length-take-le, append-nil, append_assoc, drop_all, take_all, take_at, drop_at, drop_more, take_more, take_rest}
+use Rattle.std.proofs.lemmas.List.{ext_get_or, length-take-le, append_assoc, drop_at, take_more, take_rest}
 use Rattle.field.specs.Meaning.{FieldMeaning, FieldLaws}
 use Rattle.bivariate.specs.Bivariate.{Elements}
 use Rattle.bivariate.specs.Grid.{times_linear, shifted}
@@ -29,29 +28,6 @@ module _ (m : FieldMeaning) (c : ℕ) where
       (length now ≡ length p)
       × ((k : ℕ) → k < i → get_or now k 0 ≡ m.sum (get_or p k 0) (m.product c (get_or p (k + 1) 0)))
       × ((k : ℕ) → i ≤ k → get_or now k 0 ≡ get_or p k 0)
-
-  pub linear_more : (p now : List ℕ) (i v : ℕ) → i + 1 < length p → LinearUpTo p i now
-      → v ≡ m.sum (get_or now i 0) (m.product c (get_or now (i + 1) 0)) → LinearUpTo p (i + 1) (set now i v)
-  linear_more p now i v h done is = (length-set now i v ∙ done.0, before, after)
-    where
-      value : v ≡ m.sum (get_or p i 0) (m.product c (get_or p (i + 1) 0))
-      value = is ∙ ap₂ (λ (a b : ℕ). m.sum a (m.product c b)) (done.2 i (omega arith)) (done.2 (i + 1) (omega arith))
-
-      at_place : (k : ℕ) → Dec (k ≡ i) → k < i + 1 → get_or (set now i v) k 0 ≡ m.sum (get_or p k 0) (m.product c (get_or p (k + 1) 0))
-      at_place k (yes e) l =
-          ap (λ (n : ℕ). get_or (set now i v) n 0) e ∙ get_or-set_same now i v 0 (omega (arith, done.0)) ∙ value
-          ∙ ap (λ (n : ℕ). m.sum (get_or p n 0) (m.product c (get_or p (n + 1) 0))) (sym e)
-      at_place k (no n) l = get_or-set_other now i k v 0 n ∙ done.1 k (omega arith)
-
-      before : (k : ℕ) → k < i + 1 → get_or (set now i v) k 0 ≡ m.sum (get_or p k 0) (m.product c (get_or p (k + 1) 0))
-      before k l = at_place k (ℕ_discrete k i) l
-
-      after : (k : ℕ) → i + 1 ≤ k → get_or (set now i v) k 0 ≡ get_or p k 0
-      after k l = get_or-set_other now i k v 0 (λ e. absurd (omega arith)) ∙ done.2 k (omega arith)
-
-  pub linear_reads : (p now : List ℕ) (i k : ℕ) → Elements m p → LinearUpTo p i now → i ≤ k → k < length p → get_or now k 0 < m.size
-  linear_reads p now i k h done l b =
-      subst (λ (x : ℕ). x < m.size) (sym (done.2 k l)) (All-get_or (λ x. x < m.size) p k 0 b h)
 
   whole : (p : List ℕ) → 0 < length p → p ≡ get_or p 0 0 ∷ drop 1 p
   whole [] h = absurd (omega arith)
@@ -81,10 +57,6 @@ module _ (m : FieldMeaning) (c : ℕ) where
   shifted-length [] = refl
   shifted-length (p ∷ P) = linear-length p (shifted m c P) ∙ ap suc (shifted-length P)
 
-  pub shift_none : (P : List ℕ) → P ≡ take (length P) P ++ shifted m c (drop (length P) P)
-  shift_none P =
-      sym (ap₂ (λ (u v : List ℕ). u ++ shifted m c v) (take_all (length P) P (omega arith)) (drop_all (length P) P (omega arith)) ∙ append-nil P)
-
   module _ (laws : FieldLaws m) (element : c < m.size) where
     linear-elements : (p : ℕ) (T : List ℕ) → p < m.size → Elements m T → Elements m (times_linear m c p T)
     linear-elements p [] h k = (h, tt)
@@ -111,21 +83,3 @@ module _ (m : FieldMeaning) (c : ℕ) where
       rest_elements =
           subst (Elements m) (sym rest_is)
           (All-get_or (λ x. x < m.size) P (i - 1) 0 (omega arith) elements, shifted-elements (drop i P) (All-drop (λ x. x < m.size) i P elements))
-
-      pub rest_some : 0 < length (take (length now - (i - 1)) (drop (i - 1) now))
-      rest_some = subst (λ (l : List ℕ). 0 < length l) (sym rest_is) (omega arith)
-
-      pub shift_more : (R : List ℕ)
-          → R ≡ times_linear m c (get_or (take (length now - (i - 1)) (drop (i - 1) now)) 0 0) (drop 1 (take (length now - (i - 1)) (drop (i - 1) now)))
-          → put_mid (i - 1) (length now - (i - 1)) now R ≡ take (i - 1) P ++ shifted m c (drop (i - 1) P)
-      shift_more R r =
-          let done : R ≡ shifted m c (drop (i - 1) P) =
-          r ∙ ap (λ (l : List ℕ). times_linear m c (get_or l 0 0) (drop 1 l)) rest_is
-          ∙ ap (shifted m c) (ap (λ (n : ℕ). get_or P (i - 1) 0 ∷ drop n P) one ∙ sym (drop_more P (i - 1) 0 (omega arith))) in
-          let front : take (i - 1) now ≡ take (i - 1) P = ap (take (i - 1)) split ∙ take_at (take (i - 1) P) _ (i - 1) (length-take-le (i - 1) P (omega arith)) in
-          let gone : drop (length now - (i - 1)) (drop (i - 1) now) ≡ [] =
-          drop_all (length now - (i - 1)) (drop (i - 1) now) (omega (arith, length-drop (i - 1) now)) in
-          ap₂ (λ (u v : List ℕ). u ++ (R ++ v)) front gone ∙ ap (λ (v : List ℕ). take (i - 1) P ++ v) (append-nil R ∙ done)
-        where
-          one : i ≡ i - 1 + 1
-          one = omega arith

@@ -1,6 +1,6 @@
 -- What the calls of list decoding tell, and which faults.
-use Rattle.std.specs.Prelude.{◌≡◌, ℕ, zero, suc, ◌+◌, ◌*◌, ◌≤◌, Bool, true, cond, not, ◌&&◌, List, [], ◌∷◌, length, take, drop, Some, None, Option, ◌==◌, nat_le, nat_lt}
-use Rattle.std.specs.List.{ContainsAt, AllByRecursion}
+use Rattle.std.specs.Prelude.{◌≡◌, ℕ, zero, suc, ◌+◌, ◌*◌, ◌≤◌, Bool, if◌then◌else◌, not, ◌&&◌, List, [], ◌∷◌, length, take, drop, Some, None, Option, ◌==◌, nat_le, nat_lt}
+use Rattle.std.specs.List.{ContainsAt, AllByRecursion, list_all}
 use Rattle.field.specs.Meaning.{FieldMeaning}
 use Rattle.bivariate.specs.Bivariate.{Elements, Distinct, Interpolates, agreement}
 use Rattle.bivariate.specs.Terms.{term_count, degree_bound, most_y}
@@ -18,8 +18,7 @@ pieces k (suc n) cs = take k cs ∷ pieces k n (drop k cs)
 
 -- whether each number is 0
 abbrev pub only_zeros : List ℕ → Bool
-only_zeros [] = true
-only_zeros (c ∷ cs) = c == 0 && only_zeros cs
+only_zeros = list_all (λ c. c == 0)
 
 -- fs lists the roots of Q with k coefficients: these alone, all of them, each once, and at most so many.
 pub record RootsFound (m : FieldMeaning) (Q : List (List ℕ)) (k most : ℕ) (fs : List (List ℕ)) : Type 0 where
@@ -49,7 +48,7 @@ root_rows m a d cs room memory =
 
 -- how many bytes finding the roots wants altogether, for words of n numbers
 abbrev pub bytes_answer : ℕ → ℕ → Option ℕ
-bytes_answer a n = cond (within 1 a 255 && nat_le n 256) (Some (found_bytes a (degree_bound a n) + memory_bytes a (degree_bound a n))) None
+bytes_answer a n = if within 1 a 255 && nat_le n 256 then Some (found_bytes a (degree_bound a n) + memory_bytes a (degree_bound a n)) else None
 
 -- how many bytes of memory decoding wants: for the coefficients and the vectors of interpolation, and for finding the roots
 abbrev pub decoding_bytes : ℕ → ℕ → ℕ

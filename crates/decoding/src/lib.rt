@@ -2,7 +2,10 @@
 #![tactic(auto)]
 
 mod explore;
+mod last;
 mod roots;
+mod search;
+mod shift;
 mod stage;
 mod words;
 

@@ -1,12 +1,13 @@
 // List decoding of a word.
-ghost use Rattle.std.specs.Prelude.{◌≡◌, suc, ◌+◌, ◌*◌, ◌≤◌, true, length, drop, IfSome, is_err};
+ghost use Rattle.std.specs.Prelude.{◌≡◌, suc, ◌*◌, ◌≤◌, true, length, drop, IfSome, is_err};
 ghost use Rattle.refusal.specs.Tables.{Answers};
 ghost use Rattle.bivariate.specs.Bivariate.{points_from};
 ghost use Rattle.bivariate.specs.Terms.{degree_bound};
-ghost use Rattle.decoding.specs.Decoding.{pieces, found_bytes, memory_bytes, decoding_bytes, decoding_rows, Decoded, bytes_answer};
+ghost use Rattle.decoding.specs.Decoding.{pieces, decoding_rows, Decoded, bytes_answer};
 
-use crate::roots::{find_roots, found_bytes, memory_bytes};
-use bivariate::{degree_bound, first_stranger};
+use crate::roots::find_roots;
+use crate::search::Search;
+use bivariate::first_stranger;
 use field::Field;
 use interpolation::{Fault, interpolate};
 
@@ -17,28 +18,17 @@ pub struct Listing {
     pub count: usize,
 }
 
-// The bound on weighted degrees for words of n numbers.
-fn bound(a: usize, n: usize) -> usize
-    requires weight { 1 ≤ a }
-    requires few { n ≤ 256 }
-    ensures is { result ≡ degree_bound a n }
-    ensures low { 1 ≤ result }
-    ensures high { result ≤ n + 1 }
-{
-    degree_bound(a, n as u32).unwrap_or(0)
-}
-
 // How many bytes finding the roots wants for polynomials of degree at most a and words of n numbers: those for what is found and
 // those of its memory together. None where a is not 1 to 255 or n is above 256. For a up to 7 they are at most 8,192.
 pub fn root_bytes(a: usize, n: usize) -> Option<usize>
     ensures answer { result ≡ bytes_answer a n }
     ensures few { a ≤ 7 → IfSome result (λ bytes. bytes ≤ 8192) }
 {
-    if a < 1 || a > 255 || n > 256 {
+    if !(1..=255).contains(&a) || n > 256 {
         return None;
     }
-    let d = bound(a, n);
-    Some(found_bytes(a, d) + memory_bytes(a, d))
+    let search = Search::for_word(a, n);
+    Some(search.found_bytes() + search.memory_bytes())
 }
 
 // Refuses what cannot be decoded.
@@ -51,18 +41,18 @@ fn check<F: Field>(
 ) -> Result<(), Fault>
     ensures { Answers result (decoding_rows (F.Field.meaning field.now) a word.now room memory) (λ _. Unit {0}) }
 {
-    if a < 1 || a > 255 {
+    if !(1..=255).contains(&a) {
         return Err(Fault::DegreeOutOfRange(a));
     }
     let n = word.len();
     if n > field.size() as usize {
         return Err(Fault::WordTooLong(n));
     }
-    let enough = bound(a, n);
-    if room < found_bytes(a, enough) {
-        return Err(Fault::RoomTooShort(found_bytes(a, enough)));
+    let search = Search::for_word(a, word.len());
+    if room < search.found_bytes() {
+        return Err(Fault::RoomTooShort(search.found_bytes()));
     }
-    let needed = (n + 1) * (n + 2) + memory_bytes(a, enough);
+    let needed = (n + 1) * (n + 2) + search.memory_bytes();
     if memory < needed {
         return Err(Fault::MemoryTooShort(needed));
     }

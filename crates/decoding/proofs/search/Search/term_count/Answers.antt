@@ -1,0 +1,12 @@
+use Rattle.std.proofs.Common.{arith, rules}
+use borrow.Author.Tests.{tests}
+use Rattle.std.proofs.lemmas.Iterator.{YieldsList-from_range}
+use Rattle.std.proofs.lemmas.Iterator.Adapters.{fits_from_length, at_most_from_yields_List}
+use Rattle.std.proofs.lemmas.List.FromFn.{length-range_with_len}
+use Rattle.decoding.proofs.search.Search.term_count.Goals as goal
+
+pub sum-requires-clause-fits : goal.sum-requires-clause-fits
+sum-requires-clause-fits c =
+    let d = c.args.self.terms.d in
+    fits_from_length _ _ 257 _ (at_most_from_yields_List (YieldsList-from_range 0 d d (cc) (omega arith)) (omega (arith, length-range_with_len 0 d)))
+    c.map.ensures.closure (omega arith) (λ x r q k. search (rules, tests))

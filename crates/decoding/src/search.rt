@@ -1,0 +1,111 @@
+// A search for the roots of a polynomial in x and y, in bytes that are handed in.
+ghost use Rattle.std.specs.Prelude.{◌≡◌, ℕ, suc, ◌+◌, ◌*◌, ◌<◌, ◌≤◌, length, drop};
+ghost use Rattle.bivariate.specs.Bivariate.{Elements, Zeros, coefficient};
+ghost use Rattle.bivariate.specs.Grid.{cell};
+ghost use Rattle.bivariate.specs.Terms.{term_count, most_y, polynomial, degree_bound};
+ghost use Rattle.decoding.specs.Decoding.{pieces, found_bytes, memory_bytes, RootsFound};
+
+use crate::stage::{Shape, Stage};
+use bivariate::{Terms, degree_bound};
+use field::Field;
+
+// The terms that the polynomial may have, so few that the bytes for the search can be counted.
+#[derive(Clone, Copy)]
+pub(crate) struct Search {
+    pub(crate) terms: Terms,
+    ghost light: { terms.a ≤ 255 },
+    ghost small: { terms.d ≤ 257 },
+}
+
+impl Search {
+    // The search for polynomials of degree at most a in a word of n numbers.
+    pub(crate) fn for_word(a: usize, n: usize) -> Search
+        requires weight { 1 ≤ a }
+        requires light { a ≤ 255 }
+        requires few { n ≤ 256 }
+        ensures weight { result.terms.a ≡ a }
+        ensures bound { result.terms.d ≡ degree_bound a n }
+    {
+        let d = degree_bound(a, n as u32).unwrap();
+        Search {
+            terms: Terms { a, d },
+        }
+    }
+
+    // How many terms there are: d - a·j of them have y^j.
+    pub(crate) fn term_count(self) -> usize
+        ensures { result ≡ term_count self.terms.a self.terms.d }
+    {
+        let Terms { a, d } = self.terms;
+        (0..d).map(|j| d.saturating_sub(a * j)).sum()
+    }
+
+    // The greatest power of y, and how many roots there can be.
+    fn most_y(self) -> usize
+        ensures { result ≡ most_y self.terms.a self.terms.d }
+    {
+        (self.terms.d - 1) / self.terms.a
+    }
+
+    // How many bytes the polynomials that are found can take.
+    pub(crate) fn found_bytes(self) -> usize
+        ensures { result ≡ found_bytes self.terms.a self.terms.d }
+    {
+        self.most_y() * (self.terms.a + 1)
+    }
+
+    // How many bytes of memory finding the roots wants.
+    pub(crate) fn memory_bytes(self) -> usize
+        ensures { result ≡ memory_bytes self.terms.a self.terms.d }
+    {
+        let k = self.terms.a + 1;
+        k + k * (self.terms.d * (self.most_y() + 1))
+    }
+
+    // Lays the polynomial with these coefficients out in a grid.
+    fn lay_out(self, shape: Shape, coefficients: &[u8], cells: &mut [u8])
+        requires sized { length cells.old ≡ shape.d * shape.w }
+        ensures same_length { length cells.new ≡ length cells.old }
+        ensures cells { (g j : ℕ) → g < shape.d → j < shape.w → cell shape.w cells.new g j ≡ coefficient (polynomial self.terms.a self.terms.d coefficients.now) g j }
+    {
+        for (k, cell) in cells.iter_mut().enumerate() {
+            *cell = self
+                .terms
+                .coefficient(coefficients, k / shape.w, k % shape.w);
+        }
+    }
+
+    // Finds the roots of a polynomial that is not 0, where there is room for as many as there can be.
+    pub(crate) fn run<F: Field>(
+        self,
+        field: &F,
+        coefficients: &[u8],
+        found: &mut [u8],
+        memory: &mut [u8],
+    ) -> usize
+        requires terms { length coefficients.now ≤ term_count self.terms.a self.terms.d }
+        requires room { found_bytes self.terms.a self.terms.d ≤ length found.old }
+        requires memory { memory_bytes self.terms.a self.terms.d ≤ length memory.old }
+        requires elements { Elements (F.Field.meaning field.now) coefficients.now }
+        requires nonzero { ¬ (Zeros coefficients.now) }
+        ensures same_length { length found.new ≡ length found.old }
+        ensures roots { RootsFound (F.Field.meaning field.now) (polynomial self.terms.a self.terms.d coefficients.now) (suc self.terms.a) (most_y self.terms.a self.terms.d) (pieces (suc self.terms.a) result found.new) }
+        ensures beyond { drop (result * suc self.terms.a) found.new ≡ drop (result * suc self.terms.a) found.old }
+    {
+        let k = self.terms.a + 1;
+        let shape = Shape {
+            w: self.most_y() + 1,
+            d: self.terms.d,
+        };
+        let (path, stages) = memory.split_at_mut(k);
+        let (cells, deeper) = stages.split_at_mut(shape.d * shape.w);
+        self.lay_out(shape, coefficients, cells);
+        shape.divide(cells);
+        let stage = Stage {
+            field,
+            shape,
+            cells,
+        };
+        stage.explore(k, deeper, path, found).unwrap()
+    }
+}
