@@ -8,6 +8,8 @@ mod lists;
 #[cfg(test)]
 mod mixtures;
 #[cfg(test)]
+mod polynomials;
+#[cfg(test)]
 mod refusals;
 #[cfg(test)]
 mod short;
