@@ -3,13 +3,12 @@ use crate::Two;
 use field::{Field, Gf16, Gf256, Mod251};
 use std::process::Abort;
 
-// Two numbers, their sum and their product.
+// Two numbers, their sum and their product; with a name at each, as in the tables of the other tests, a row would take six lines.
 #[derive(Clone, Copy)]
 struct Pair(u8, u8, Option<u8>, Option<u8>);
 
 fn pairs<F: Field>(rt: &impl Abort, field: &F, cases: &[Pair]) {
-    for case in cases {
-        let Pair(a, b, sum, product) = *case;
+    for &Pair(a, b, sum, product) in cases {
         assert_eq!(rt; field.sum(a, b), sum);
         assert_eq!(rt; field.product(a, b), product);
     }
@@ -20,8 +19,7 @@ fn pairs<F: Field>(rt: &impl Abort, field: &F, cases: &[Pair]) {
 struct One(u8, Option<u8>, Option<u8>);
 
 fn ones<F: Field>(rt: &impl Abort, field: &F, cases: &[One]) {
-    for case in cases {
-        let One(a, negative, inverse) = *case;
+    for &One(a, negative, inverse) in cases {
         assert_eq!(rt; field.negative(a), negative);
         assert_eq!(rt; field.inverse(a), inverse);
     }
