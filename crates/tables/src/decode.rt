@@ -95,9 +95,14 @@ impl Problem<'_> {
         })
     }
 
-    // The roots, one behind the other, each with a + 1 coefficients.
+    // How many coefficients a polynomial of degree at most `a` has.
+    fn width(&self) -> usize {
+        self.a.saturating_add(1)
+    }
+
+    // The roots, one behind the other.
     fn roots(&self, heap: Global, q: &Interpolant) -> Result<Vec<u8>, Stop> {
-        let k = self.a.saturating_add(1);
+        let k = self.width();
         let most = q.d.saturating_sub(1).checked_div(self.a).unwrap_or(0);
         let mut found = zeros(heap, most.saturating_mul(k))?;
         let stages = q.d.saturating_mul(most.saturating_add(1));
@@ -146,11 +151,12 @@ impl Problem<'_> {
         println!(rt; "degree at most {}, D = {}", self.a, q.d)?;
         print_terms(rt, &q.terms(rt.alloc(), self.digits)?)?;
         let found = self.roots(rt.alloc(), &q)?;
-        let k = self.a.saturating_add(1);
-        for f in found.chunks(k) {
+        let roots = found.chunks(self.width().max(1));
+        let count = roots.len();
+        for f in roots {
             self.print_root(rt, f)?;
         }
-        println!(rt; "polynomials found: {}", found.len() / k)?;
+        println!(rt; "polynomials found: {count}")?;
         Ok(())
     }
 }

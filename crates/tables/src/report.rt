@@ -25,11 +25,17 @@ pub(crate) fn print_word(rt: &HostRuntime, digits: Digits, word: &[u8]) -> Resul
     print_rows(rt, digits, word)
 }
 
-// A user's table, or the refusal of a user that the code has not.
-fn print_table<C: Code>(rt: &HostRuntime, code: &C, user: u64) -> Result<(), Stop> {
-    if user >= code.users() {
-        return Err(Stop::Refused(Refusal::UserOutOfRange(user)));
+// The refusal of a user that the code has not.
+pub(crate) fn check_user<C: Code>(code: &C, user: u64) -> Result<(), Refusal> {
+    if user < code.users() {
+        Ok(())
+    } else {
+        Err(Refusal::UserOutOfRange(user))
     }
+}
+
+fn print_table<C: Code>(rt: &HostRuntime, code: &C, user: u64) -> Result<(), Stop> {
+    check_user(code, user)?;
     println!(rt; "user {user}")?;
     let table = (0..code.length())
         .filter_map(|position| code.symbol(user, position))

@@ -1,9 +1,9 @@
 // The word that a line asks to decode.
 use crate::numbers::{DigitFault, Digits, read_numbers};
+use crate::report::check_user;
 use crate::request::NamedWord;
 use crate::stop::Stop;
 use code::Code;
-use refusal::Refusal;
 use std::alloc::Global;
 
 // The word of these digits, which must have a number for each position.
@@ -20,15 +20,14 @@ fn spelled<C: Code>(heap: Global, code: &C, digits: &str) -> Result<Vec<u8>, Sto
 
 // The word that takes its numbers in turn from the tables of users.
 fn mixed<C: Code>(heap: Global, code: &C, users: &[u64]) -> Result<Vec<u8>, Stop> {
-    if let Some(user) = users.iter().find(|user| **user >= code.users()) {
-        return Err(Stop::Refused(Refusal::UserOutOfRange(*user)));
+    for user in users {
+        check_user(code, *user)?;
     }
-    Ok(
-        (0..code.length())
-            .zip(users.iter().cycle())
-            .filter_map(|(position, user)| code.symbol(*user, position))
-            .collect(heap)?,
-    )
+    let word = (0..code.length())
+        .zip(users.iter().cycle())
+        .filter_map(|(position, user)| code.symbol(*user, position))
+        .collect(heap)?;
+    Ok(word)
 }
 
 pub(crate) fn word_named<C: Code>(
