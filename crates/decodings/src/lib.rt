@@ -14,6 +14,8 @@ mod refusals;
 #[cfg(test)]
 mod short;
 #[cfg(test)]
+mod subjects;
+#[cfg(test)]
 mod words;
 
 // Numbers that look random, from a linear congruence: the words of the tests are the same in every run.

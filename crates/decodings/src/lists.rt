@@ -1,65 +1,61 @@
 // What is found over GF(16), against the list of all polynomials, and the roots of polynomials that the tests write down.
 use crate::Random;
 use crate::polynomials::Polynomial;
-use crate::words::{common, decode, mixed_word, numbers_of, random_word};
+use crate::subjects::Subject;
+use crate::words::{numbers_of, random_word};
 use code::Code;
 use field::Gf16;
-use reed_solomon::Plain;
 use std::process::Abort;
 use std::test::Fail;
 
-// Whether each user with as many positions of the word as the bound is among these.
-fn promised<C: Code>(code: &C, bound: usize, users: &[u64], word: &[u8]) -> bool {
-    (0..code.users()).all(|user| common(code, word, user) < bound || users.contains(&user))
-}
-
 // What is found are all roots; at least so many. The degree of Q(x, f(x)) is below 16, so that the 16 elements decide.
-fn full_list<C: Code>(
+fn full_list(
     rt: &(impl Abort + AllocGlobal),
-    code: &C,
-    a: usize,
+    subject: &Subject<Gf16>,
     word: &[u8],
     least: usize,
 ) -> Result<(), Fail> {
-    let decoded = decode(rt, &Gf16, a, word)?;
+    let decoded = subject.decode(rt, word)?;
     assert!(rt; decoded.bound <= 16);
-    let expected = decoded.polynomial(&Gf16).root_users(rt.alloc(), code)?;
-    assert!(rt; promised(code, decoded.bound, &expected, word) && expected.len() >= least);
-    assert_eq!(rt;
-        numbers_of(rt.alloc(), 16, a.wrapping_add(1), &decoded.found)?,
-        expected
-    );
+    let q = decoded.polynomial(&Gf16);
+    let users = (0..subject.code.users()).collect::<Vec<u64>>(rt.alloc())?;
+    let expected = users
+        .iter()
+        .copied()
+        .filter(|user| q.vanishes(&subject.code, *user))
+        .collect::<Vec<u64>>(rt.alloc())?;
+    assert!(rt; subject.complete(q.bound, &expected, word, &users) && expected.len() >= least);
+    assert_eq!(rt; subject.found_users(rt.alloc(), &decoded)?, expected);
     Ok(())
 }
 
 // Words mixed from the first users of a list, and as many of random numbers. One user or two are found.
-fn full_lists<C: Code>(
+fn full_lists(
     rt: &(impl Abort + AllocGlobal),
-    code: &C,
-    a: usize,
+    subject: &Subject<Gf16>,
     users: &[u64],
 ) -> Result<(), Fail> {
     let mut random = Random(16);
     let mut word = [0; 16];
     for count in 1..=users.len() {
-        mixed_word(code, &users[..count], &mut word);
-        full_list(rt, code, a, &word, if count <= 2 { count } else { 0 })?;
+        subject.mixed_word(&users[..count], &mut word);
+        full_list(rt, subject, &word, if count <= 2 { count } else { 0 })?;
         random_word(16, &mut random, &mut word);
-        full_list(rt, code, a, &word, 0)?;
+        full_list(rt, subject, &word, 0)?;
     }
     Ok(())
 }
 
 #[test]
 fn full_lists_2(rt: HostRuntime) -> Result<(), Fail> {
-    let code = Plain::new(Gf16, 16, 2)?;
-    full_lists(&rt, &code, 1, &[0x53, 0xa7, 0x00, 0x0f, 0xf0, 0x11])
+    let users = [0x53, 0xa7, 0x00, 0x0f, 0xf0, 0x11];
+    full_lists(&rt, &Subject::new(Gf16, 16, 2)?, &users)
 }
 
 #[test]
 fn full_lists_3(rt: HostRuntime) -> Result<(), Fail> {
-    let code = Plain::new(Gf16, 16, 3)?;
-    full_lists(&rt, &code, 2, &[0x753, 0x0a7, 0x000, 0xf0f])
+    let users = [0x753, 0x0a7, 0x000, 0xf0f];
+    full_lists(&rt, &Subject::new(Gf16, 16, 3)?, &users)
 }
 
 // A bound, the coefficients, and the numbers of the roots.

@@ -1,10 +1,10 @@
 // Words of random numbers, and words mixed in turn from the tables of 1 to 6 users.
 use crate::Random;
-use crate::words::{Decoded, common, decode, mixed_word, number_of, numbers_of, random_word};
+use crate::subjects::Subject;
+use crate::words::{Decoded, number_of, random_word};
 use code::Code;
 use decoding::agreement;
 use field::{Field, Gf16, Gf256, Mod251};
-use reed_solomon::Plain;
 use std::process::Abort;
 use std::test::Fail;
 
@@ -13,76 +13,64 @@ const SEEDS: [u64; 6] = [
     3141592653, 589793238, 462643383, 2795028841, 971693993, 751058209,
 ];
 
-// A plain code over a field, of users whose polynomials have k coefficients.
-#[derive(Drop)]
-struct Subject<F: Field> {
-    field: F,
-    code: Plain<F>,
-    k: usize,
+// Whether what is found are roots, with as many positions of the word as their tables have.
+fn sound<F: Field>(subject: &Subject<F>, decoded: &Decoded, word: &[u8]) -> bool {
+    let Subject { field, code, k } = subject;
+    let q = decoded.polynomial(field);
+    decoded.found.chunks((*k).max(1)).all(|f| {
+        let user = number_of(field.size(), f);
+        q.vanishes(code, user) && agreement(field, word, f) == Some(subject.common(word, user))
+    })
 }
 
-// Whether each user whose table has at least as many positions of the word as the bound was found.
-fn complete<C: Code>(code: &C, bound: usize, found: &[u64], word: &[u8], users: &[u64]) -> bool {
-    users.iter().all(|user| common(code, word, *user) < bound || found.contains(user))
+// Decodes a word, and gives the found users.
+fn found_users<F: Field>(
+    rt: &(impl Abort + AllocGlobal),
+    subject: &Subject<F>,
+    word: &[u8],
+    users: &[u64],
+) -> Result<Vec<u64>, Fail> {
+    let decoded = subject.decode(rt, word)?;
+    let found = subject.found_users(rt.alloc(), &decoded)?;
+    let q = decoded.polynomial(&subject.field);
+    assert!(rt; q.bound <= subject.field.size() as usize && !q.is_zero() && q.passes(word));
+    assert!(rt;
+        sound(subject, &decoded, word)
+            && found.is_sorted_by(|user, next| user < next)
+            && subject.complete(q.bound, &found, word, users)
+    );
+    Ok(found)
 }
 
-impl<F: Field> Subject<F> {
-    // Whether what is found are roots, with as many positions of the word as their tables have.
-    fn sound(&self, decoded: &Decoded, word: &[u8]) -> bool {
-        let q = decoded.polynomial(&self.field);
-        decoded.found.chunks(self.k.max(1)).all(|f| {
-            let user = number_of(self.field.size(), f);
-            q.vanishes(&self.code, user)
-                && agreement(&self.field, word, f) == Some(common(&self.code, word, user))
-        })
+// Words mixed from the tables of one user and more. Up to so many, the share of each is at least the bound, and all are found.
+fn mixtures<F: Field>(
+    rt: &(impl Abort + AllocGlobal),
+    subject: &Subject<F>,
+    most: usize,
+    word: &mut [u8],
+) -> Result<(), Fail> {
+    let users = SEEDS.map(|seed| seed % subject.code.users().max(1));
+    for count in 1..=users.len() {
+        let mixed = &users[..count];
+        subject.mixed_word(mixed, word);
+        let found = found_users(rt, subject, word, mixed)?;
+        // each user has 0 positions and more
+        assert!(rt; count > most || subject.complete(0, &found, word, mixed));
     }
+    Ok(())
+}
 
-    // Decodes a word, and gives the found users.
-    fn found_users(
-        &self,
-        rt: &(impl Abort + AllocGlobal),
-        word: &[u8],
-        users: &[u64],
-    ) -> Result<Vec<u64>, Fail> {
-        let size = self.field.size();
-        let decoded = decode(rt, &self.field, self.k.saturating_sub(1), word)?;
-        let found = numbers_of(rt.alloc(), size, self.k, &decoded.found)?;
-        let q = decoded.polynomial(&self.field);
-        assert!(rt; q.bound <= size as usize && !q.is_zero() && q.passes(word));
-        assert!(rt;
-            self.sound(&decoded, word)
-                && found.is_sorted_by(|user, next| user < next)
-                && complete(&self.code, q.bound, &found, word, users)
-        );
-        Ok(found)
+// Words of random numbers, each half as long as the one before.
+fn randoms<F: Field>(
+    rt: &(impl Abort + AllocGlobal),
+    subject: &Subject<F>,
+    word: &mut [u8],
+) -> Result<(), Fail> {
+    random_word(subject.field.size(), &mut Random(subject.k as u64), word);
+    for halvings in 0..4u32 {
+        found_users(rt, subject, &word[..word.len() >> halvings], &[])?;
     }
-
-    // Words mixed from the tables of one user and more. Up to so many, the share of each is at least the bound, and all are found.
-    fn mixtures(
-        &self,
-        rt: &(impl Abort + AllocGlobal),
-        most: usize,
-        word: &mut [u8],
-    ) -> Result<(), Fail> {
-        let users = SEEDS.map(|seed| seed % self.code.users().max(1));
-        for count in 1..=users.len() {
-            let mixed = &users[..count];
-            mixed_word(&self.code, mixed, word);
-            let found = self.found_users(rt, word, mixed)?;
-            // each user has 0 positions and more
-            assert!(rt; count > most || complete(&self.code, 0, &found, word, mixed));
-        }
-        Ok(())
-    }
-
-    // Words of random numbers, each half as long as the one before.
-    fn randoms(&self, rt: &(impl Abort + AllocGlobal), word: &mut [u8]) -> Result<(), Fail> {
-        random_word(self.field.size(), &mut Random(self.k as u64), word);
-        for halvings in 0..4u32 {
-            self.found_users(rt, &word[..word.len() >> halvings], &[])?;
-        }
-        Ok(())
-    }
+    Ok(())
 }
 
 // Decodes words as long as this one, over a field.
@@ -93,10 +81,9 @@ fn words<F: Field + Copy + Drop>(
     most: usize,
     word: &mut [u8],
 ) -> Result<(), Fail> {
-    let code = Plain::new(field, word.len(), k)?;
-    let subject = Subject { field, code, k };
-    subject.mixtures(rt, most, word)?;
-    subject.randoms(rt, word)
+    let subject = Subject::new(field, word.len(), k)?;
+    mixtures(rt, &subject, most, word)?;
+    randoms(rt, &subject, word)
 }
 
 #[test]

@@ -2,7 +2,6 @@
 use code::Code;
 use decoding::find_roots;
 use field::Field;
-use std::alloc::{AllocError, Global};
 use std::process::Abort;
 use std::test::Fail;
 
@@ -53,17 +52,6 @@ impl<F: Field> Polynomial<'_, F> {
                 .and_then(|y| self.value((x & 0xff) as u8, y))
                 == Some(0)
         })
-    }
-
-    // The users of a code whose polynomials are roots.
-    pub(crate) fn root_users<C: Code>(
-        &self,
-        heap: Global,
-        code: &C,
-    ) -> Result<Vec<u64>, AllocError> {
-        (0..code.users())
-            .filter(|user| self.vanishes(code, *user))
-            .collect(heap)
     }
 
     // The roots that are found, one behind the other, given no byte more than they want.

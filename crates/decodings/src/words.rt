@@ -1,7 +1,6 @@
 // What the tests share: words, their decoding, and the users of polynomials.
 use crate::Random;
 use crate::polynomials::Polynomial;
-use code::Code;
 use decoding::interpolate;
 use field::Field;
 use std::alloc::{AllocError, Global};
@@ -11,21 +10,6 @@ use std::test::Fail;
 // Writes a word of random elements.
 pub(crate) fn random_word(size: u16, random: &mut Random, word: &mut [u8]) {
     word.fill_with(|| (random.next() % size.max(1) as u64 & 0xff) as u8);
-}
-
-// Writes a word that takes its positions from the tables of these users in turn.
-pub(crate) fn mixed_word<C: Code>(code: &C, users: &[u64], word: &mut [u8]) {
-    for ((i, number), user) in word.iter_mut().enumerate().zip(users.iter().cycle()) {
-        *number = code.symbol(*user, i).unwrap_or(0);
-    }
-}
-
-// In how many positions the word is the user's table.
-pub(crate) fn common<C: Code>(code: &C, word: &[u8], user: u64) -> usize {
-    word.iter()
-        .enumerate()
-        .filter(|(i, number)| code.symbol(user, *i) == Some(**number))
-        .count()
 }
 
 // What came of a word: the bound, the coefficients of Q, and the found polynomials, one behind the other.
