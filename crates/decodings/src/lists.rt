@@ -8,7 +8,7 @@ use field::Gf16;
 use std::process::Abort;
 use std::test::Fail;
 
-// What is found are all roots; at least so many. The degree of Q(x, f(x)) is below 16, so that the 16 elements decide.
+// What is found are all roots, at least so many. The degree of Q(x, f(x)) is below 16, so that the 16 elements decide.
 fn full_list(
     rt: &(impl Abort + AllocGlobal),
     subject: &Subject<Gf16>,
@@ -58,10 +58,10 @@ fn full_lists_3(rt: HostRuntime) -> Result<(), Fail> {
     full_lists(&rt, &Subject::new(Gf16, 16, 3)?, &users)
 }
 
-// A bound, the coefficients, and the numbers of the roots.
+// A bound, the coefficients, and the numbers of the roots. A tuple, so that each case is a row of a table.
 type Written = (usize, &'static [u8], &'static [u64]);
 
-// The numbers of the users of degree a at most whose polynomials are found.
+// The numbers of the users whose polynomials are found as roots.
 fn found_numbers(
     rt: &(impl Abort + AllocGlobal),
     a: usize,

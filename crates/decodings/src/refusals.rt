@@ -38,8 +38,8 @@ impl Handed {
     }
 }
 
-// The degree, the word, how many bytes there are for the coefficients and of memory, and what comes of them. Of a table's
-// row it is a tuple: with a name at each number a case would take seven lines.
+// The degree, the word, how many bytes there are for the coefficients and of memory, and what comes of them.
+// A tuple, so that each case is a row of a table: with names it would take seven lines.
 type Asked = (usize, &'static [u8], usize, usize, Result<usize, Fault>);
 
 fn interpolations<F: Field>(
@@ -103,7 +103,7 @@ fn interpolations_251(rt: HostRuntime) -> Result<(), Fail> {
 }
 
 // The degree, the bound, the coefficients, how many bytes there are for what is found and of memory, and what comes of them.
-// A row of a table too.
+// A tuple, so that each case is a row of a table: with names it would take eight lines.
 type Sought = (
     usize,
     usize,

@@ -7,8 +7,8 @@ use refusal::{Layer, Refusal};
 use std::process::Abort;
 use std::test::Fail;
 
-// The numbers of a code: users, length, alphabet, overlap. They and the rows of the tables below have no names at their
-// places: with them a row would take a line for each.
+// The numbers of a code: users, length, alphabet, overlap.
+// A tuple, as the cases below are, so that each case is a row of a table: with names it would take six lines and more.
 #[derive(Clone, Copy, PartialEq, Debug)]
 struct Numbers(u64, usize, u16, usize);
 

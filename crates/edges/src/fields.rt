@@ -3,7 +3,7 @@ use crate::Two;
 use field::{Field, Gf16, Gf256, Mod251};
 use std::process::Abort;
 
-// Two numbers, their sum and their product; with a name at each, as in the tables of the other tests, a row would take six lines.
+// Two numbers, their sum and their product. A tuple, so that each case is a row of a table: with names it would take six lines.
 #[derive(Clone, Copy)]
 struct Pair(u8, u8, Option<u8>, Option<u8>);
 
@@ -14,7 +14,7 @@ fn pairs<F: Field>(rt: &impl Abort, field: &F, cases: &[Pair]) {
     }
 }
 
-// A number, its negative and its inverse.
+// A number, its negative and its inverse, a row of a table too.
 #[derive(Clone, Copy)]
 struct One(u8, Option<u8>, Option<u8>);
 
