@@ -4,11 +4,9 @@ use std::test::Fail;
 
 // How many terms x^g·y^j have g + a·j < d, counted j by j.
 fn terms_below(a: usize, d: usize) -> usize {
-    let mut count = 0usize;
-    for j in 0..d {
-        count = count.wrapping_add(d.saturating_sub(a.wrapping_mul(j)));
-    }
-    count
+    (0..d).fold(0usize, |count, j| {
+        count.wrapping_add(d.saturating_sub(a.wrapping_mul(j)))
+    })
 }
 
 #[test]
@@ -40,8 +38,7 @@ fn known_bounds(rt: HostRuntime) {
         (0, 0, None),
         (0, 256, None),
     ];
-    for case in &cases {
-        let (a, n, expected) = *case;
+    for (a, n, expected) in cases {
         assert_eq!(rt; degree_bound(a, n), expected);
     }
 }

@@ -8,9 +8,13 @@ mod lists;
 #[cfg(test)]
 mod mixtures;
 #[cfg(test)]
+mod polynomials;
+#[cfg(test)]
 mod refusals;
 #[cfg(test)]
 mod short;
+#[cfg(test)]
+mod subjects;
 #[cfg(test)]
 mod words;
 

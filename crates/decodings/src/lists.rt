@@ -1,102 +1,87 @@
 // What is found over GF(16), against the list of all polynomials, and the roots of polynomials that the tests write down.
 use crate::Random;
-use crate::words::{common, decode, mixed_word, numbers_of, random_word, roots, vanishes};
+use crate::polynomials::Polynomial;
+use crate::subjects::Subject;
+use crate::words::{numbers_of, random_word};
 use code::Code;
 use field::Gf16;
-use reed_solomon::Plain;
-use std::alloc::{AllocError, Global};
 use std::process::Abort;
 use std::test::Fail;
 
-// The users whose polynomials are roots. The degree of Q(x, f(x)) is below 16, so that the 16 elements decide.
-fn root_users<C: Code>(
-    heap: Global,
-    code: &C,
-    a: usize,
-    bound: usize,
-    terms: &[u8],
-) -> Result<Vec<u64>, AllocError> {
-    let mut users = Vec::new(heap);
-    for user in 0..code.users() {
-        if vanishes(&Gf16, code, a, bound, terms, user) {
-            users.push(user)?;
-        }
-    }
-    Ok(users)
-}
-
-// Whether each user with as many positions of the word as the bound is among these.
-fn promised<C: Code>(code: &C, bound: usize, users: &[u64], word: &[u8]) -> bool {
-    for user in 0..code.users() {
-        if common(code, word, user) >= bound && !users.contains(&user) {
-            return false;
-        }
-    }
-    true
-}
-
-// What is found are all roots; at least so many.
-fn full_list<C: Code>(
-    rt: &impl Abort,
-    heap: Global,
-    code: &C,
-    a: usize,
+// What is found are all roots, at least so many. The degree of Q(x, f(x)) is below 16, so that the 16 elements decide.
+fn full_list(
+    rt: &(impl Abort + AllocGlobal),
+    subject: &Subject<Gf16>,
     word: &[u8],
     least: usize,
 ) -> Result<(), Fail> {
-    let decoded = decode(rt, heap, &Gf16, a, word)?;
+    let decoded = subject.decode(rt, word)?;
     assert!(rt; decoded.bound <= 16);
-    let expected = root_users(heap, code, a, decoded.bound, &decoded.terms)?;
-    assert!(rt; promised(code, decoded.bound, &expected, word) && expected.len() >= least);
-    assert_eq!(rt;
-        numbers_of(heap, 16, a.wrapping_add(1), &decoded.found)?,
-        expected
-    );
+    let q = decoded.polynomial(&Gf16);
+    let users = (0..subject.code.users()).collect::<Vec<u64>>(rt.alloc())?;
+    let expected = users
+        .iter()
+        .copied()
+        .filter(|user| q.vanishes(&subject.code, *user))
+        .collect::<Vec<u64>>(rt.alloc())?;
+    assert!(rt; subject.complete(q.bound, &expected, word, &users) && expected.len() >= least);
+    assert_eq!(rt; subject.found_users(rt.alloc(), &decoded)?, expected);
     Ok(())
 }
 
 // Words mixed from the first users of a list, and as many of random numbers. One user or two are found.
-fn full_lists<C: Code>(
-    rt: &impl Abort,
-    heap: Global,
-    code: &C,
-    a: usize,
+fn full_lists(
+    rt: &(impl Abort + AllocGlobal),
+    subject: &Subject<Gf16>,
     users: &[u64],
-    word: &mut [u8],
 ) -> Result<(), Fail> {
     let mut random = Random(16);
-    for i in 0..users.len() {
-        mixed_word(code, &users[0..i + 1], word);
-        full_list(rt, heap, code, a, word, if i < 2 { i + 1 } else { 0 })?;
-        random_word(16, &mut random, word);
-        full_list(rt, heap, code, a, word, 0)?;
+    let mut word = [0; 16];
+    for count in 1..=users.len() {
+        subject.mixed_word(&users[..count], &mut word);
+        full_list(rt, subject, &word, if count <= 2 { count } else { 0 })?;
+        random_word(16, &mut random, &mut word);
+        full_list(rt, subject, &word, 0)?;
     }
     Ok(())
 }
 
 #[test]
 fn full_lists_2(rt: HostRuntime) -> Result<(), Fail> {
-    let code = Plain::new(Gf16, 16, 2)?;
     let users = [0x53, 0xa7, 0x00, 0x0f, 0xf0, 0x11];
-    full_lists(&rt, rt.alloc(), &code, 1, &users, &mut [0; 16])
+    full_lists(&rt, &Subject::new(Gf16, 16, 2)?, &users)
 }
 
 #[test]
 fn full_lists_3(rt: HostRuntime) -> Result<(), Fail> {
-    let code = Plain::new(Gf16, 16, 3)?;
     let users = [0x753, 0x0a7, 0x000, 0xf0f];
-    full_lists(&rt, rt.alloc(), &code, 2, &users, &mut [0; 16])
+    full_lists(&rt, &Subject::new(Gf16, 16, 3)?, &users)
 }
 
-// A bound, the coefficients, and the numbers of the roots.
+// A bound, the coefficients, and the numbers of the roots. A tuple, so that each case is a row of a table.
 type Written = (usize, &'static [u8], &'static [u64]);
 
-fn written_roots(rt: &impl Abort, heap: Global, a: usize, cases: &[Written]) -> Result<(), Fail> {
-    for case in cases {
-        let (bound, terms, expected) = *case;
-        let found = roots(rt, heap, &Gf16, a, bound, terms)?;
-        let numbers = numbers_of(heap, 16, a.wrapping_add(1), &found)?;
-        assert!(rt; numbers.as_slice() == expected, "bound {bound}");
+// The numbers of the users whose polynomials are found as roots.
+fn found_numbers(
+    rt: &(impl Abort + AllocGlobal),
+    a: usize,
+    bound: usize,
+    terms: &[u8],
+) -> Result<Vec<u64>, Fail> {
+    let polynomial = Polynomial {
+        field: &Gf16,
+        a,
+        bound,
+        terms,
+    };
+    let found = polynomial.roots(rt)?;
+    Ok(numbers_of(rt.alloc(), 16, a.wrapping_add(1), &found)?)
+}
+
+fn written_roots(rt: &(impl Abort + AllocGlobal), a: usize, cases: &[Written]) -> Result<(), Fail> {
+    for (bound, terms, expected) in cases {
+        let numbers = found_numbers(rt, a, *bound, terms)?;
+        assert!(rt; numbers.as_slice() == *expected, "bound {bound}");
     }
     Ok(())
 }
@@ -117,14 +102,14 @@ fn given_roots(rt: HostRuntime) -> Result<(), Fail> {
         // x·y + 1
         (3, &[1, 0, 0, 0, 1], &[]),
     ];
-    written_roots(&rt, rt.alloc(), 1, &lines)?;
+    written_roots(&rt, 1, &lines)?;
     let parabolas: [Written; 3] = [
         // y + x^2, y + x^2 + x + 1, y + x^3
         (3, &[0, 0, 1, 1], &[256]),
         (3, &[1, 1, 1, 1], &[273]),
         (4, &[0, 0, 0, 1, 1], &[]),
     ];
-    written_roots(&rt, rt.alloc(), 2, &parabolas)
+    written_roots(&rt, 2, &parabolas)
 }
 
 // As many roots as powers of y.
@@ -134,20 +119,16 @@ fn most_roots(rt: HostRuntime) -> Result<(), Fail> {
     let mut terms = [0; 136];
     terms[0] = 1;
     terms[135] = 1;
-    let found = roots(&rt, rt.alloc(), &Gf16, 1, 16, &terms)?;
-    let numbers = numbers_of(rt.alloc(), 16, 2, &found)?;
     assert_eq!(rt;
-        numbers.as_slice(),
+        found_numbers(&rt, 1, 16, &terms)?.as_slice(),
         [1, 2, 3, 4, 5, 6, 7, 8, 9, 10, 11, 12, 13, 14, 15].as_slice()
     );
     // y^16 + y, which is 0 at every element with the values of any polynomial
     let mut terms = [0; 153];
     terms[17] = 1;
     terms[152] = 1;
-    let found = roots(&rt, rt.alloc(), &Gf16, 1, 17, &terms)?;
-    let numbers = numbers_of(rt.alloc(), 16, 2, &found)?;
     assert_eq!(rt;
-        numbers.as_slice(),
+        found_numbers(&rt, 1, 17, &terms)?.as_slice(),
         [0, 1, 2, 3, 4, 5, 6, 7, 8, 9, 10, 11, 12, 13, 14, 15].as_slice()
     );
     Ok(())

@@ -1,44 +1,62 @@
 // What the calls refuse, and that a call which refuses changes nothing.
 use decoding::{Fault, find_roots, interpolate};
 use field::{Field, Gf16, Gf256, Mod251};
+use std::alloc::{AllocError, Global};
 use std::process::Abort;
+use std::test::Fail;
 
 // What stands in each byte before a call.
 const BEFORE: u8 = 165;
 
-// Whether each byte is as before.
-fn untouched(bytes: &[u8]) -> bool {
-    for byte in bytes {
-        if *byte != BEFORE {
-            return false;
-        }
+// The bytes that a call is handed: room for its result, and memory.
+#[derive(Drop)]
+struct Handed {
+    room: Vec<u8>,
+    memory: Vec<u8>,
+}
+
+impl Handed {
+    fn new(heap: Global, room: usize, memory: usize) -> Result<Handed, AllocError> {
+        Ok(Handed {
+            room: vec![in heap; BEFORE; room]?,
+            memory: vec![in heap; BEFORE; memory]?,
+        })
     }
-    true
+
+    // Whether each byte is as before.
+    fn untouched(&self) -> bool {
+        self.room
+            .iter()
+            .chain(&self.memory)
+            .all(|byte| *byte == BEFORE)
+    }
+
+    // What came of the call is expected, and a refusal changed nothing.
+    fn check(&self, rt: &impl Abort, came: Result<usize, Fault>, expected: Result<usize, Fault>) {
+        assert_eq!(rt; came, expected);
+        assert!(rt; came.is_ok() || self.untouched());
+    }
 }
 
 // The degree, the word, how many bytes there are for the coefficients and of memory, and what comes of them.
+// A tuple, so that each case is a row of a table: with names it would take seven lines.
 type Asked = (usize, &'static [u8], usize, usize, Result<usize, Fault>);
 
 fn interpolations<F: Field>(
-    rt: &impl Abort,
+    rt: &(impl Abort + AllocGlobal),
     field: &F,
     cases: &[Asked],
-    room: &mut [u8],
-    memory: &mut [u8],
-) {
-    for case in cases {
-        let (a, word, most, bytes, expected) = *case;
-        assert!(rt; most <= room.len() && bytes <= memory.len());
-        room.fill(BEFORE);
-        memory.fill(BEFORE);
-        let result = interpolate(field, a, word, &mut room[0..most], &mut memory[0..bytes]);
-        assert_eq!(rt; result, expected);
-        assert!(rt; result.is_ok() || untouched(room) && untouched(memory));
+) -> Result<(), Fail> {
+    for (a, word, room, memory, expected) in cases {
+        let mut handed = Handed::new(rt.alloc(), *room, *memory)?;
+        let came = interpolate(field, *a, word, &mut handed.room, &mut handed.memory);
+        handed.check(rt, came, *expected);
     }
+    Ok(())
 }
 
 #[test]
-fn interpolations_256(rt: HostRuntime) {
+fn interpolations_256(rt: HostRuntime) -> Result<(), Fail> {
     let three = &[1, 1, 255];
     let full = &[1; 256];
     let long = &[1; 257];
@@ -56,11 +74,11 @@ fn interpolations_256(rt: HostRuntime) {
         (3, long, 258, 66564, Err(Fault::WordTooLong(257))),
         (0, long, 0, 0, Err(Fault::DegreeOutOfRange(0))),
     ];
-    interpolations(&rt, &Gf256, &cases, &mut [0; 300], &mut [0; 66564]);
+    interpolations(&rt, &Gf256, &cases)
 }
 
 #[test]
-fn interpolations_251(rt: HostRuntime) {
+fn interpolations_251(rt: HostRuntime) -> Result<(), Fail> {
     let cases: [Asked; 6] = [
         (1, &[250, 250, 250], 4, 16, Ok(3)),
         (1, &[250, 250, 251], 4, 16, Err(Fault::NotAnElement(2))),
@@ -69,7 +87,7 @@ fn interpolations_251(rt: HostRuntime) {
         (3, &[0; 252], 300, 66049, Err(Fault::WordTooLong(252))),
         (3, &[251; 251], 252, 63504, Err(Fault::NotAnElement(0))),
     ];
-    interpolations(&rt, &Mod251, &cases, &mut [0; 300], &mut [0; 66564]);
+    interpolations(&rt, &Mod251, &cases)?;
     let small: [Asked; 3] = [
         (1, &[15; 16], 17, 289, Ok(6)),
         (
@@ -81,10 +99,11 @@ fn interpolations_251(rt: HostRuntime) {
         ),
         (1, &[0; 17], 18, 324, Err(Fault::WordTooLong(17))),
     ];
-    interpolations(&rt, &Gf16, &small, &mut [0; 300], &mut [0; 66564]);
+    interpolations(&rt, &Gf16, &small)
 }
 
 // The degree, the bound, the coefficients, how many bytes there are for what is found and of memory, and what comes of them.
+// A tuple, so that each case is a row of a table: with names it would take eight lines.
 type Sought = (
     usize,
     usize,
@@ -95,32 +114,27 @@ type Sought = (
 );
 
 fn findings<F: Field>(
-    rt: &impl Abort,
+    rt: &(impl Abort + AllocGlobal),
     field: &F,
     cases: &[Sought],
-    room: &mut [u8],
-    memory: &mut [u8],
-) {
-    for case in cases {
-        let (a, bound, terms, most, bytes, expected) = *case;
-        assert!(rt; most <= room.len() && bytes <= memory.len());
-        room.fill(BEFORE);
-        memory.fill(BEFORE);
-        let result = find_roots(
+) -> Result<(), Fail> {
+    for (a, bound, terms, room, memory, expected) in cases {
+        let mut handed = Handed::new(rt.alloc(), *room, *memory)?;
+        let came = find_roots(
             field,
-            a,
-            bound,
+            *a,
+            *bound,
             terms,
-            &mut room[0..most],
-            &mut memory[0..bytes],
+            &mut handed.room,
+            &mut handed.memory,
         );
-        assert_eq!(rt; result, expected);
-        assert!(rt; result.is_ok() || untouched(room) && untouched(memory));
+        handed.check(rt, came, *expected);
     }
+    Ok(())
 }
 
 #[test]
-fn findings_256(rt: HostRuntime) {
+fn findings_256(rt: HostRuntime) -> Result<(), Fail> {
     let square = &[0, 0, 0, 0, 0, 1];
     let one = &[1];
     let cases: [Sought; 16] = [
@@ -163,11 +177,11 @@ fn findings_256(rt: HostRuntime) {
             Err(Fault::TooManyCoefficients(260)),
         ),
     ];
-    findings(&rt, &Gf256, &cases, &mut [0; 512], &mut [0; 132100]);
+    findings(&rt, &Gf256, &cases)
 }
 
 #[test]
-fn findings_251(rt: HostRuntime) {
+fn findings_251(rt: HostRuntime) -> Result<(), Fail> {
     let cases: [Sought; 4] = [
         (1, 3, &[0, 0, 0, 0, 0, 250], 4, 20, Ok(1)),
         (
@@ -195,7 +209,7 @@ fn findings_251(rt: HostRuntime) {
             Err(Fault::MemoryTooShort(20)),
         ),
     ];
-    findings(&rt, &Mod251, &cases, &mut [0; 512], &mut [0; 132100]);
+    findings(&rt, &Mod251, &cases)?;
     let small: [Sought; 2] = [
         (1, 3, &[0, 0, 0, 0, 0, 15], 4, 20, Ok(1)),
         (
@@ -207,5 +221,5 @@ fn findings_251(rt: HostRuntime) {
             Err(Fault::NotAnElement(5)),
         ),
     ];
-    findings(&rt, &Gf16, &small, &mut [0; 512], &mut [0; 132100]);
+    findings(&rt, &Gf16, &small)
 }

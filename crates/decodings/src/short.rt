@@ -3,14 +3,17 @@ use crate::Random;
 use crate::words::{decode, random_word};
 use decoding::{agreement, coefficient_at, value_at};
 use field::{Field, Gf16, Gf256, Mod251};
-use std::alloc::Global;
 use std::process::Abort;
 use std::test::Fail;
 
 // The polynomial of an empty word is a constant, and that of a word of one number has no y; neither has roots.
-fn none_found<F: Field>(rt: &impl Abort, heap: Global, field: &F, word: &[u8]) -> Result<(), Fail> {
+fn none_found<F: Field>(
+    rt: &(impl Abort + AllocGlobal),
+    field: &F,
+    word: &[u8],
+) -> Result<(), Fail> {
     for a in 1..6usize {
-        let decoded = decode(rt, heap, field, a, word)?;
+        let decoded = decode(rt, field, a, word)?;
         assert_eq!(rt; decoded.bound, word.len().wrapping_add(1));
         assert_eq!(rt; decoded.found.len(), 0);
         assert_ne!(rt; decoded.terms.last(), Some(&0));
@@ -20,12 +23,12 @@ fn none_found<F: Field>(rt: &impl Abort, heap: Global, field: &F, word: &[u8]) -
 
 #[test]
 fn shortest_words(rt: HostRuntime) -> Result<(), Fail> {
-    none_found(&rt, rt.alloc(), &Gf256, &[])?;
-    none_found(&rt, rt.alloc(), &Mod251, &[])?;
-    none_found(&rt, rt.alloc(), &Gf16, &[])?;
-    none_found(&rt, rt.alloc(), &Gf256, &[255])?;
-    none_found(&rt, rt.alloc(), &Mod251, &[250])?;
-    none_found(&rt, rt.alloc(), &Gf16, &[0])
+    none_found(&rt, &Gf256, &[])?;
+    none_found(&rt, &Mod251, &[])?;
+    none_found(&rt, &Gf16, &[])?;
+    none_found(&rt, &Gf256, &[255])?;
+    none_found(&rt, &Mod251, &[250])?;
+    none_found(&rt, &Gf16, &[0])
 }
 
 // The line through two points is found, and nothing else.
@@ -33,7 +36,7 @@ fn shortest_words(rt: HostRuntime) -> Result<(), Fail> {
 fn two_numbers(rt: HostRuntime) -> Result<(), Fail> {
     for p in 0..16u8 {
         for q in 0..16u8 {
-            let decoded = decode(&rt, rt.alloc(), &Gf16, 1, &[p, q])?;
+            let decoded = decode(&rt, &Gf16, 1, &[p, q])?;
             assert_eq!(rt; decoded.bound, 2);
             assert_eq!(rt; decoded.found.as_slice(), [p, p ^ q].as_slice());
         }
@@ -43,13 +46,12 @@ fn two_numbers(rt: HostRuntime) -> Result<(), Fail> {
 
 // Any word with as many numbers as there are elements is the table of one polynomial of the greatest degree, which is found.
 fn whole_table<F: Field>(
-    rt: &impl Abort,
-    heap: Global,
+    rt: &(impl Abort + AllocGlobal),
     field: &F,
     word: &mut [u8],
 ) -> Result<(), Fail> {
     random_word(field.size(), &mut Random(1), word);
-    let decoded = decode(rt, heap, field, word.len().saturating_sub(1), word)?;
+    let decoded = decode(rt, field, word.len().saturating_sub(1), word)?;
     assert_eq!(rt; decoded.found.len(), word.len());
     assert_eq!(rt; agreement(field, word, &decoded.found), Some(word.len()));
     Ok(())
@@ -57,9 +59,9 @@ fn whole_table<F: Field>(
 
 #[test]
 fn whole_tables(rt: HostRuntime) -> Result<(), Fail> {
-    whole_table(&rt, rt.alloc(), &Gf256, &mut [0; 256])?;
-    whole_table(&rt, rt.alloc(), &Mod251, &mut [0; 251])?;
-    whole_table(&rt, rt.alloc(), &Gf16, &mut [0; 16])
+    whole_table(&rt, &Gf256, &mut [0; 256])?;
+    whole_table(&rt, &Mod251, &mut [0; 251])?;
+    whole_table(&rt, &Gf16, &mut [0; 16])
 }
 
 #[test]
@@ -72,8 +74,7 @@ fn values(rt: HostRuntime) {
         (&[3, 0, 250], 251, None),
         (&[3, 0, 251], 250, None),
     ];
-    for case in &cases {
-        let (coefficients, x, expected) = *case;
+    for (coefficients, x, expected) in cases {
         assert_eq!(rt; value_at(&Mod251, coefficients, x), expected);
     }
 }
@@ -90,8 +91,7 @@ fn agreements(rt: HostRuntime) {
         (&[3, 2, 1, 0], &[3, 1], Some(4)),
         (&[3, 2, 0, 0], &[3, 1], Some(3)),
     ];
-    for case in &cases {
-        let (word, coefficients, expected) = *case;
+    for (word, coefficients, expected) in cases {
         assert_eq!(rt; agreement(&Gf16, word, coefficients), expected);
     }
 }
@@ -119,8 +119,7 @@ fn coefficients(rt: HostRuntime) {
         (0, 5, 0, 0, None),
         (2, 0, 0, 0, None),
     ];
-    for case in &cases {
-        let (a, d, g, j, expected) = *case;
+    for (a, d, g, j, expected) in cases {
         assert_eq!(rt;
             coefficient_at(a, d, &[1, 2, 3, 4, 5, 6, 7, 8, 9], g, j),
             expected

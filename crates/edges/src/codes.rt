@@ -8,6 +8,7 @@ use std::process::Abort;
 use std::test::Fail;
 
 // The numbers of a code: users, length, alphabet, overlap.
+// A tuple, as the cases below are, so that each case is a row of a table: with names it would take six lines and more.
 #[derive(Clone, Copy, PartialEq, Debug)]
 struct Numbers(u64, usize, u16, usize);
 
@@ -21,8 +22,7 @@ fn numbers_of<C: Code + Drop>(made: Result<C, Refusal>) -> Result<Numbers, Refus
 struct Made(usize, usize, Result<Numbers, Refusal>);
 
 fn plain_codes<F: Field + Copy + Drop>(rt: &impl Abort, field: F, cases: &[Made]) {
-    for case in cases {
-        let Made(length, coefficients, expected) = *case;
+    for &Made(length, coefficients, expected) in cases {
         assert_eq!(rt;
             numbers_of(Plain::new(field, length, coefficients)),
             expected
@@ -79,8 +79,7 @@ fn extended_codes<F: Field + Copy + Drop>(
     field: F,
     cases: &[(usize, Result<Numbers, Refusal>)],
 ) {
-    for case in cases {
-        let (coefficients, expected) = *case;
+    for &(coefficients, expected) in cases {
         assert_eq!(rt;
             numbers_of(DoublyExtended::new(field, coefficients)),
             expected
@@ -159,8 +158,7 @@ fn concatenations(rt: HostRuntime) {
 struct At(u64, usize, Option<u8>);
 
 fn symbols<C: Code + Drop>(rt: &impl Abort, code: C, cases: &[At]) {
-    for case in cases {
-        let At(user, position, expected) = *case;
+    for &At(user, position, expected) in cases {
         assert_eq!(rt; code.symbol(user, position), expected);
     }
 }
@@ -233,8 +231,7 @@ fn refusals(rt: HostRuntime) {
         Told(Refusal::UserOutOfRange(65536), 12, 65536, Layer::Book),
         Told(Refusal::LineNotUnderstood, 60, 0, Layer::Console),
     ];
-    for case in &cases {
-        let Told(refusal, number, place, layer) = *case;
+    for Told(refusal, number, place, layer) in cases {
         assert_eq!(rt; refusal.number(), number);
         assert_eq!(rt; refusal.place(), place);
         assert_eq!(rt; refusal.layer(), layer);

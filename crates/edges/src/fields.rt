@@ -3,25 +3,23 @@ use crate::Two;
 use field::{Field, Gf16, Gf256, Mod251};
 use std::process::Abort;
 
-// Two numbers, their sum and their product.
+// Two numbers, their sum and their product. A tuple, so that each case is a row of a table: with names it would take six lines.
 #[derive(Clone, Copy)]
 struct Pair(u8, u8, Option<u8>, Option<u8>);
 
 fn pairs<F: Field>(rt: &impl Abort, field: &F, cases: &[Pair]) {
-    for case in cases {
-        let Pair(a, b, sum, product) = *case;
+    for &Pair(a, b, sum, product) in cases {
         assert_eq!(rt; field.sum(a, b), sum);
         assert_eq!(rt; field.product(a, b), product);
     }
 }
 
-// A number, its negative and its inverse.
+// A number, its negative and its inverse, a row of a table too.
 #[derive(Clone, Copy)]
 struct One(u8, Option<u8>, Option<u8>);
 
 fn ones<F: Field>(rt: &impl Abort, field: &F, cases: &[One]) {
-    for case in cases {
-        let One(a, negative, inverse) = *case;
+    for &One(a, negative, inverse) in cases {
         assert_eq!(rt; field.negative(a), negative);
         assert_eq!(rt; field.inverse(a), inverse);
     }

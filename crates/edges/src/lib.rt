@@ -27,22 +27,18 @@ impl Field for Two {
     }
 
     fn sum(&self, a: u8, b: u8) -> Option<u8> {
-        if a < 2 && b < 2 { Some(a ^ b) } else { None }
+        (a < 2 && b < 2).then_some(a ^ b)
     }
 
     fn product(&self, a: u8, b: u8) -> Option<u8> {
-        if a < 2 && b < 2 {
-            Some(if b == 1 { a } else { 0 })
-        } else {
-            None
-        }
+        (a < 2 && b < 2).then_some(if b == 1 { a } else { 0 })
     }
 
     fn negative(&self, a: u8) -> Option<u8> {
-        if a < 2 { Some(a) } else { None }
+        (a < 2).then_some(a)
     }
 
     fn inverse(&self, a: u8) -> Option<u8> {
-        if a == 1 { Some(1) } else { None }
+        (a == 1).then_some(1)
     }
 }

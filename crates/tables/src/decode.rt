@@ -1,169 +1,164 @@
 // Decoding a word: the polynomial Q in x and y that is 0 at its points, and every f with Q(x, f(x)) = 0.
-use crate::numbers::{row_text, two_digits};
+use crate::naming::NamedField;
+use crate::numbers::{Digits, KeyNumber};
 use crate::report::{print_code, print_word};
 use crate::request::{NamedWord, PlainName};
 use crate::stop::Stop;
 use crate::word::word_named;
 use code::Code;
 use decoding::{Fault, agreement, coefficient_at, find_roots, interpolate};
+use itertools::Itertools;
 use reed_solomon::Plain;
 use std::alloc::{AllocError, Global};
+use std::fmt;
 
 // How many terms stand in a row.
 const TERMS_IN_ROW: usize = 8;
 
-// A word that is decoded with polynomials of degree at most `a`.
+// A word of a code that is decoded with polynomials of degree at most `a`.
 #[derive(Clone, Copy)]
 struct Problem<'a> {
     name: PlainName,
-    a: u8,
+    code: &'a Plain<NamedField>,
+    digits: Digits,
+    a: usize,
     word: &'a [u8],
 }
 
 // A polynomial in x and y: its coefficients in the order of its terms x^g·y^j with g + a·j < d.
 #[derive(Drop)]
 struct Interpolant {
+    a: usize,
     d: usize,
     coefficients: Vec<u8>,
 }
 
 #[derive(Clone, Copy)]
 struct Term {
-    c: u8,
+    c: KeyNumber,
     g: usize,
     j: usize,
+}
+
+impl fmt::Display for Term {
+    fn fmt<W: fmt::Write>(&self, f: &mut fmt::Formatter<W>) -> fmt::Result {
+        write!(f, "{}·x^{}·y^{}", self.c, self.g, self.j)
+    }
 }
 
 fn zeros(heap: Global, count: usize) -> Result<Vec<u8>, AllocError> {
     vec![in heap; 0u8; count]
 }
 
-fn interpolated(heap: Global, problem: &Problem) -> Result<Interpolant, Stop> {
-    let w = problem.word.len().saturating_add(1);
-    let mut coefficients = zeros(heap, w)?;
-    let mut memory = zeros(heap, w.saturating_mul(w))?;
-    let d = interpolate(
-        &problem.name.field,
-        problem.a as usize,
-        problem.word,
-        coefficients.as_mut_slice(),
-        memory.as_mut_slice(),
-    )?;
-    Ok(Interpolant { d, coefficients })
-}
-
-// The terms that are not 0.
-fn terms(heap: Global, a: u8, q: &Interpolant) -> Result<Vec<Term>, AllocError> {
-    let mut terms = Vec::new(heap);
-    for j in 0..q.d {
-        for g in 0..q.d {
-            let c = coefficient_at(a as usize, q.d, q.coefficients.as_slice(), g, j).unwrap_or(0);
-            if c != 0 {
-                terms.push(Term { c, g, j })?;
+impl Interpolant {
+    // The terms that are not 0.
+    fn terms(&self, heap: Global, digits: Digits) -> Result<Vec<Term>, AllocError> {
+        let mut terms = Vec::new(heap);
+        for j in 0..self.d {
+            for g in 0..self.d {
+                let c = coefficient_at(self.a, self.d, &self.coefficients, g, j).unwrap_or(0);
+                if c != 0 {
+                    let c = digits.number(c);
+                    terms.push(Term { c, g, j })?;
+                }
             }
         }
-    }
-    Ok(terms)
-}
-
-fn write_term(text: &mut String, wide: bool, term: &Term) -> Result<(), AllocError> {
-    let c = term.c;
-    let g = term.g;
-    let j = term.j;
-    if wide {
-        write!(text, " {c:02x}·x^{g}·y^{j}")
-    } else {
-        write!(text, " {c:x}·x^{g}·y^{j}")
+        Ok(terms)
     }
 }
 
-fn term_row(heap: Global, wide: bool, terms: &[Term]) -> Result<String, Stop> {
-    let mut text = String::new(heap);
-    for term in terms {
-        write_term(&mut text, wide, term)?;
-    }
-    Ok(text)
-}
-
-fn print_terms(rt: &HostRuntime, wide: bool, terms: &[Term]) -> Result<(), Stop> {
-    let count = terms.len();
-    println!(rt; "terms of Q: {count}")?;
+fn print_terms(rt: &HostRuntime, terms: &[Term]) -> Result<(), Stop> {
+    println!(rt; "terms of Q: {}", terms.len())?;
     for row in terms.chunks(TERMS_IN_ROW) {
-        let text = term_row(rt.alloc(), wide, row)?;
-        println!(rt; " {text}")?;
+        let text = row.iter().format(rt.alloc(), " ")?;
+        println!(rt; "  {text}")?;
     }
     Ok(())
 }
 
-// The roots, one behind the other, each with a + 1 coefficients.
-fn roots(heap: Global, problem: &Problem, q: &Interpolant) -> Result<Vec<u8>, Stop> {
-    let a = problem.a as usize;
-    let k = a + 1;
-    let most = q.d.saturating_sub(1).checked_div(a).unwrap_or(0);
-    let mut found = zeros(heap, most.saturating_mul(k))?;
-    let stages = q.d.saturating_mul(most.saturating_add(1));
-    let mut memory = zeros(heap, stages.saturating_add(1).saturating_mul(k))?;
-    let count = find_roots(
-        &problem.name.field,
-        a,
-        q.d,
-        q.coefficients.as_slice(),
-        found.as_mut_slice(),
-        memory.as_mut_slice(),
-    )?;
-    found.truncate(count.saturating_mul(k));
-    Ok(found)
-}
+impl Problem<'_> {
+    fn interpolant(&self, heap: Global) -> Result<Interpolant, Stop> {
+        let w = self.word.len().saturating_add(1);
+        let mut coefficients = zeros(heap, w)?;
+        let mut memory = zeros(heap, w.saturating_mul(w))?;
+        let d = interpolate(
+            &self.name.field,
+            self.a,
+            self.word,
+            &mut coefficients,
+            &mut memory,
+        )?;
+        Ok(Interpolant {
+            a: self.a,
+            d,
+            coefficients,
+        })
+    }
 
-// The user of a polynomial that has no more coefficients than the code's: its coefficients are the user's digits, lowest first.
-fn user_of<C: Code>(code: &C, name: PlainName, f: &[u8]) -> Option<u64> {
-    let size = u64::from(code.alphabet());
-    let mut user = 0u64;
-    for c in f.iter().rev() {
-        user = user.checked_mul(size)?.checked_add(u64::from(*c))?;
+    // How many coefficients a polynomial of degree at most `a` has.
+    fn width(&self) -> usize {
+        self.a.saturating_add(1)
     }
-    if f.len() <= name.coefficients && user < code.users() {
-        Some(user)
-    } else {
-        None
-    }
-}
 
-fn print_root<C: Code>(
-    rt: &HostRuntime,
-    code: &C,
-    problem: &Problem,
-    f: &[u8],
-) -> Result<(), Stop> {
-    let Some(agreed) = agreement(&problem.name.field, problem.word, f) else {
-        return Ok(());
-    };
-    let text = row_text(rt.alloc(), two_digits(code.alphabet()), " ", f)?;
-    match user_of(code, problem.name, f) {
-        Some(user) => println!(rt;
-            "polynomial{text} is user {user} and agrees in {agreed} positions"
-        )?,
-        None => println!(rt; "polynomial{text} agrees in {agreed} positions")?,
+    // The roots, one behind the other.
+    fn roots(&self, heap: Global, q: &Interpolant) -> Result<Vec<u8>, Stop> {
+        let k = self.width();
+        let most = q.d.saturating_sub(1).checked_div(self.a).unwrap_or(0);
+        let mut found = zeros(heap, most.saturating_mul(k))?;
+        let stages = q.d.saturating_mul(most.saturating_add(1));
+        let mut memory = zeros(heap, stages.saturating_add(1).saturating_mul(k))?;
+        let count = find_roots(
+            &self.name.field,
+            self.a,
+            q.d,
+            &q.coefficients,
+            &mut found,
+            &mut memory,
+        )?;
+        found.truncate(count.saturating_mul(k));
+        Ok(found)
     }
-    Ok(())
-}
 
-fn report_found<C: Code>(rt: &HostRuntime, code: &C, problem: &Problem) -> Result<(), Stop> {
-    let wide = two_digits(code.alphabet());
-    let a = problem.a;
-    let q = interpolated(rt.alloc(), problem)?;
-    let d = q.d;
-    print_word(rt, wide, problem.word)?;
-    println!(rt; "degree at most {a}, D = {d}")?;
-    print_terms(rt, wide, terms(rt.alloc(), a, &q)?.as_slice())?;
-    let k = a as usize + 1;
-    let found = roots(rt.alloc(), problem, &q)?;
-    for f in found.as_slice().chunks(k) {
-        print_root(rt, code, problem, f)?;
+    // The user of a polynomial that has no more coefficients than the code's: its coefficients are the user's digits, lowest first.
+    fn user_of(&self, f: &[u8]) -> Option<u64> {
+        let size = u64::from(self.code.alphabet());
+        let user = f.iter().rev().try_fold(0u64, |user, c| {
+            user.checked_mul(size)?.checked_add(u64::from(*c))
+        })?;
+        (f.len() <= self.name.coefficients && user < self.code.users()).then_some(user)
     }
-    let count = found.len() / k;
-    println!(rt; "polynomials found: {count}")?;
-    Ok(())
+
+    fn print_root(&self, rt: &HostRuntime, f: &[u8]) -> Result<(), Stop> {
+        let Some(agreed) = agreement(&self.name.field, self.word, f) else {
+            return Ok(());
+        };
+        let text = f
+            .iter()
+            .map(|c| self.digits.number(*c))
+            .format(rt.alloc(), " ")?;
+        match self.user_of(f) {
+            Some(user) => println!(rt;
+                "polynomial {text} is user {user} and agrees in {agreed} positions"
+            )?,
+            None => println!(rt; "polynomial {text} agrees in {agreed} positions")?,
+        }
+        Ok(())
+    }
+
+    fn report(&self, rt: &HostRuntime) -> Result<(), Stop> {
+        let q = self.interpolant(rt.alloc())?;
+        print_word(rt, self.digits, self.word)?;
+        println!(rt; "degree at most {}, D = {}", self.a, q.d)?;
+        print_terms(rt, &q.terms(rt.alloc(), self.digits)?)?;
+        let found = self.roots(rt.alloc(), &q)?;
+        let roots = found.chunks(self.width().max(1));
+        let count = roots.len();
+        for f in roots {
+            self.print_root(rt, f)?;
+        }
+        println!(rt; "polynomials found: {count}")?;
+        Ok(())
+    }
 }
 
 // Prints the code, the word, Q, and the polynomials that are found.
@@ -173,12 +168,15 @@ pub(crate) fn decode(
     degree: usize,
     word: &NamedWord,
 ) -> Result<(), Stop> {
-    let code = Plain::new(name.field, name.length, name.coefficients)?;
+    let code = name.make()?;
     print_code(rt, &code)?;
-    let numbers = word_named(rt.alloc(), &code, word)?;
-    let Ok(a) = u8::try_from(degree) else {
-        return Err(Stop::Undecoded(Fault::DegreeOutOfRange(degree)));
+    let word = word_named(rt.alloc(), &code, word)?;
+    let problem = Problem {
+        name,
+        code: &code,
+        digits: Digits::of_size(code.alphabet()),
+        a: degree,
+        word: &word,
     };
-    let word = numbers.as_slice();
-    report_found(rt, &code, &Problem { name, a, word })
+    problem.report(rt)
 }

@@ -3,6 +3,8 @@
 
 mod answer;
 mod decode;
+mod either;
+mod made;
 mod naming;
 mod numbers;
 mod report;

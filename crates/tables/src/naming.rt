@@ -5,6 +5,8 @@ ghost use Rattle.field.specs.BinaryLaws.{gf16_laws, gf256_laws};
 ghost use Rattle.tables.specs.declared.naming.NamedField.TheVariants.{Mod251, Gf256, Gf16};
 
 use field::{Field, Gf16, Gf256, Mod251};
+use refusal::Refusal;
+use std::str::FromStr;
 
 #[derive(Clone, Copy)]
 pub enum NamedField {
@@ -13,15 +15,20 @@ pub enum NamedField {
     Gf16,
 }
 
-pub(crate) fn field_named(name: &str) -> Option<NamedField> {
-    match name {
-        "mod251" => Some(NamedField::Mod251),
-        "gf256" => Some(NamedField::Gf256),
-        "gf16" => Some(NamedField::Gf16),
-        _ => None,
+impl FromStr for NamedField {
+    type Err = Refusal;
+
+    fn from_str(name: &str) -> Result<NamedField, Refusal> {
+        match name {
+            "mod251" => Ok(NamedField::Mod251),
+            "gf256" => Ok(NamedField::Gf256),
+            "gf16" => Ok(NamedField::Gf16),
+            _ => Err(Refusal::LineNotUnderstood),
+        }
     }
 }
 
+// Each method asks the field of that name by a match: no function may make a `&dyn Field` and hand it out.
 impl Field for NamedField {
     ghost meaning = { named_meaning };
 

@@ -1,41 +1,55 @@
 // Key numbers in hexadecimal: one digit for each where they are below 16, else two.
 use crate::stop::Stop;
-use std::alloc::{AllocError, Global};
+use std::alloc::Global;
 use std::fmt;
+use thiserror::Error;
 
 // What is wrong with the digits of a word.
-#[derive(Clone, Copy)]
+#[derive(Clone, Copy, Debug, Error)]
 pub enum DigitFault {
-    // what stands at this place is no digit
+    #[error("place {0} of the word is none of the digits 0 to 9 and a to f")]
     NotADigit(usize),
-    // so many digits are no whole number of pairs
+    #[error("a number has two digits here, but the word has {0} digits")]
     HalfANumber(usize),
-    // there are more or fewer numbers than positions
+    #[error("the word must have {wanted} numbers, but has {came}")]
     WrongLength { wanted: usize, came: usize },
 }
 
-impl fmt::Display for DigitFault {
-    fn fmt<W: fmt::Write>(&self, f: &mut fmt::Formatter<W>) -> fmt::Result {
-        match self {
-            DigitFault::NotADigit(place) => write!(
-                f,
-                "place {place} of the word is none of the digits 0 to 9 and a to f"
-            ),
-            DigitFault::HalfANumber(digits) => write!(
-                f,
-                "a number has two digits here, but the word has {digits} digits"
-            ),
-            DigitFault::WrongLength { wanted, came } => write!(
-                f,
-                "the word must have {wanted} numbers, but has {came}"
-            ),
+// How many digits a key number has.
+#[derive(Clone, Copy)]
+pub enum Digits {
+    One,
+    Two,
+}
+
+// A key number as it is printed.
+#[derive(Clone, Copy)]
+pub struct KeyNumber {
+    digits: Digits,
+    value: u8,
+}
+
+impl Digits {
+    // The digits of a number of a field or alphabet of this size.
+    pub(crate) fn of_size(size: u16) -> Digits {
+        if size > 16 { Digits::Two } else { Digits::One }
+    }
+
+    pub(crate) fn number(self, value: u8) -> KeyNumber {
+        KeyNumber {
+            digits: self,
+            value,
         }
     }
 }
 
-// Whether numbers of a field or alphabet of this size have two digits.
-pub(crate) fn two_digits(size: u16) -> bool {
-    size > 16
+impl fmt::Display for KeyNumber {
+    fn fmt<W: fmt::Write>(&self, f: &mut fmt::Formatter<W>) -> fmt::Result {
+        match self.digits {
+            Digits::One => write!(f, "{:x}", self.value),
+            Digits::Two => write!(f, "{:02x}", self.value),
+        }
+    }
 }
 
 fn digit(byte: u8) -> Option<u8> {
@@ -47,51 +61,23 @@ fn digit(byte: u8) -> Option<u8> {
 }
 
 fn read_digits(heap: Global, text: &str) -> Result<Vec<u8>, Stop> {
-    let mut digits = Vec::new(heap);
-    for (place, byte) in text.bytes().enumerate() {
-        let Some(value) = digit(byte) else {
-            return Err(Stop::Unread(DigitFault::NotADigit(place)));
-        };
-        digits.push(value)?;
-    }
-    Ok(digits)
+    text.bytes()
+        .enumerate()
+        .map(|(place, byte)| digit(byte).ok_or(Stop::Unread(DigitFault::NotADigit(place))))
+        .try_collect(heap)
 }
 
 // The numbers that stand in a text without gaps.
-pub(crate) fn read_numbers(heap: Global, wide: bool, text: &str) -> Result<Vec<u8>, Stop> {
-    let digits = read_digits(heap, text)?;
-    if !wide {
-        return Ok(digits);
+pub(crate) fn read_numbers(heap: Global, digits: Digits, text: &str) -> Result<Vec<u8>, Stop> {
+    let values = read_digits(heap, text)?;
+    match digits {
+        Digits::One => Ok(values),
+        Digits::Two => values
+            .chunks(2)
+            .map(|pair| match pair {
+                [high, low] => Ok((*high << 4) | *low),
+                _ => Err(Stop::Unread(DigitFault::HalfANumber(values.len()))),
+            })
+            .try_collect(heap),
     }
-    let mut numbers = Vec::new(heap);
-    for pair in digits.as_slice().chunks(2) {
-        let [high, low] = pair else {
-            return Err(Stop::Unread(DigitFault::HalfANumber(digits.len())));
-        };
-        numbers.push((*high << 4) | *low)?;
-    }
-    Ok(numbers)
-}
-
-pub(crate) fn write_number(text: &mut String, wide: bool, number: u8) -> Result<(), AllocError> {
-    if wide {
-        write!(text, "{number:02x}")
-    } else {
-        write!(text, "{number:x}")
-    }
-}
-
-// These numbers as a text, with a gap before each.
-pub(crate) fn row_text(
-    heap: Global,
-    wide: bool,
-    gap: &str,
-    numbers: &[u8],
-) -> Result<String, Stop> {
-    let mut text = String::new(heap);
-    for number in numbers {
-        text.push_str(gap)?;
-        write_number(&mut text, wide, *number)?;
-    }
-    Ok(text)
 }

@@ -1,7 +1,9 @@
 // A line of input: the name of a code, and then users whose tables are to be printed or a word that is to be decoded.
-use crate::naming::{NamedField, field_named};
-use std::alloc::{AllocError, Global};
-use std::str::SplitWhitespace;
+use crate::naming::NamedField;
+use crate::stop::Stop;
+use refusal::Refusal::LineNotUnderstood;
+use std::alloc::Global;
+use std::str::{FromStr, SplitWhitespace};
 
 // A plain Reed-Solomon code by its name.
 #[derive(Clone, Copy)]
@@ -47,81 +49,69 @@ pub enum Request<'a> {
     },
 }
 
-fn number(words: &mut SplitWhitespace) -> Option<usize> {
-    words.next()?.parse::<usize>().ok()
+// The value that the next word stands for; None where the line ends or the word stands for none.
+fn parsed<T: FromStr>(words: &mut SplitWhitespace) -> Option<T>
+where
+    T::Err: Drop,
+{
+    words.next()?.parse().ok()
 }
 
 // The rest of "plain FIELD LENGTH COEFFICIENTS" or "extended FIELD COEFFICIENTS" after its first word.
 fn named_code(kind: &str, words: &mut SplitWhitespace) -> Option<NamedCode> {
-    let field = field_named(words.next()?)?;
     match kind {
-        "plain" => {
-            let length = number(words)?;
-            let coefficients = number(words)?;
-            Some(NamedCode::Plain(PlainName {
-                field,
-                length,
-                coefficients,
-            }))
-        }
-        "extended" => {
-            let coefficients = number(words)?;
-            Some(NamedCode::Extended {
-                field,
-                coefficients,
-            })
-        }
+        "plain" => Some(NamedCode::Plain(PlainName {
+            field: parsed(words)?,
+            length: parsed(words)?,
+            coefficients: parsed(words)?,
+        })),
+        "extended" => Some(NamedCode::Extended {
+            field: parsed(words)?,
+            coefficients: parsed(words)?,
+        }),
         _ => None,
     }
 }
 
 // A code by its name, up to the word that says what is asked of it.
 fn code_name(words: &mut SplitWhitespace) -> Option<CodeName> {
-    let kind = words.next()?;
-    if kind == "concatenated" {
-        let outer_kind = words.next()?;
-        let outer = named_code(outer_kind, words)?;
-        let inner_kind = words.next()?;
-        let inner = named_code(inner_kind, words)?;
-        Some(CodeName::Concatenated { outer, inner })
-    } else {
-        Some(CodeName::Alone(named_code(kind, words)?))
+    match words.next()? {
+        "concatenated" => Some(CodeName::Concatenated {
+            outer: named_code(words.next()?, words)?,
+            inner: named_code(words.next()?, words)?,
+        }),
+        kind => Some(CodeName::Alone(named_code(kind, words)?)),
     }
 }
 
-// The users that end a line; None where a word is no number.
-fn users_listed(heap: Global, words: SplitWhitespace) -> Result<Option<Vec<u64>>, AllocError> {
-    let mut users = Vec::new(heap);
-    for word in words {
-        let Ok(user) = word.parse::<u64>() else {
-            return Ok(None);
-        };
-        users.push(user)?;
-    }
-    Ok(Some(users))
+// The users that end a line, each word the number of one.
+fn users_listed(heap: Global, words: SplitWhitespace) -> Result<Vec<u64>, Stop> {
+    words
+        .map(|word| {
+            word.parse::<u64>()
+                .map_err(|_error| LineNotUnderstood.into())
+        })
+        .try_collect(heap)
 }
 
 // The one word of digits that ends a line.
-fn lone_word(mut words: SplitWhitespace<'_>) -> Option<NamedWord<'_>> {
-    let digits = words.next()?;
-    match words.next() {
-        None => Some(NamedWord::Spelled(digits)),
-        Some(_) => None,
-    }
+fn lone_word(mut words: SplitWhitespace<'_>) -> Option<&str> {
+    let word = words.next()?;
+    words.next().is_none().then_some(word)
 }
 
 // What "word DIGITS" or "mixed USER USER .." names, with at least one user.
-fn word_name<'a>(
-    heap: Global,
-    mut words: SplitWhitespace<'a>,
-) -> Result<Option<NamedWord<'a>>, AllocError> {
+fn word_name<'a>(heap: Global, mut words: SplitWhitespace<'a>) -> Result<NamedWord<'a>, Stop> {
     match words.next() {
-        Some("word") => Ok(lone_word(words)),
-        Some("mixed") => match users_listed(heap, words)? {
-            Some(users) if !users.is_empty() => Ok(Some(NamedWord::Mixed(users))),
-            _ => Ok(None),
-        },
-        _ => Ok(None),
+        Some("word") => Ok(NamedWord::Spelled(lone_word(words).ok_or(LineNotUnderstood)?)),
+        Some("mixed") => {
+            let users = users_listed(heap, words)?;
+            if users.is_empty() {
+                return Err(LineNotUnderstood.into());
+            }
+            Ok(NamedWord::Mixed(users))
+        }
+        _ => Err(LineNotUnderstood.into()),
     }
 }
 
@@ -130,31 +120,25 @@ fn decoding_request<'a>(
     heap: Global,
     code: CodeName,
     mut words: SplitWhitespace<'a>,
-) -> Result<Option<Request<'a>>, AllocError> {
+) -> Result<Request<'a>, Stop> {
     let CodeName::Alone(NamedCode::Plain(code)) = code else {
-        return Ok(None);
+        return Err(LineNotUnderstood.into());
     };
-    let Some(degree) = number(&mut words) else {
-        return Ok(None);
-    };
-    match word_name(heap, words)? {
-        Some(word) => Ok(Some(Request::Decoding { code, degree, word })),
-        None => Ok(None),
-    }
+    let degree = parsed(&mut words).ok_or(LineNotUnderstood)?;
+    let word = word_name(heap, words)?;
+    Ok(Request::Decoding { code, degree, word })
 }
 
-// What a line asks for; None where it has no meaning.
-pub(crate) fn read_request(heap: Global, line: &str) -> Result<Option<Request<'_>>, AllocError> {
+// What a line asks for, or that it was not understood.
+pub(crate) fn read_request(heap: Global, line: &str) -> Result<Request<'_>, Stop> {
     let mut words = line.split_whitespace();
-    let Some(code) = code_name(&mut words) else {
-        return Ok(None);
-    };
+    let code = code_name(&mut words).ok_or(LineNotUnderstood)?;
     match words.next() {
-        Some("users") => match users_listed(heap, words)? {
-            Some(users) => Ok(Some(Request::Tables { code, users })),
-            None => Ok(None),
-        },
+        Some("users") => {
+            let users = users_listed(heap, words)?;
+            Ok(Request::Tables { code, users })
+        }
         Some("degree") => decoding_request(heap, code, words),
-        _ => Ok(None),
+        _ => Err(LineNotUnderstood.into()),
     }
 }

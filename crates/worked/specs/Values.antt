@@ -1,15 +1,12 @@
 -- Worked values, a row each, computed from the definitions that the contracts cite.
 use Rattle.std.specs.Prelude.{◌≡◌, Bool, true, ◌&&◌, List, [], ◌∷◌, ℕ, zero, suc, eqb}
+use Rattle.std.specs.List.{list_all}
 use Rattle.field.specs.Modular.{modulo251}
 use Rattle.field.specs.Binary.{gf16, gf256}
 use Rattle.code.specs.Meaning.{CodeMeaning}
 use Rattle.reed_solomon.specs.Plain.{plain}
 use Rattle.reed_solomon.specs.DoublyExtended.{doubly_extended}
 use Rattle.code.specs.Concatenation.{concatenated}
-
-abbrev pub all_hold : List Bool → Bool
-all_hold [] = true
-all_hold (b ∷ bs) = b && all_hold bs
 
 -- whether a table holds s at the n positions from i on
 abbrev holds_from : (ℕ → ℕ) → ℕ → ℕ → ℕ → Bool
@@ -35,4 +32,4 @@ worked_values =
     ∷ []
 
 abbrev pub WorkedValuesHold : Type 0
-WorkedValuesHold = all_hold worked_values ≡ true
+WorkedValuesHold = list_all (λ b. b) worked_values ≡ true

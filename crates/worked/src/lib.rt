@@ -4,16 +4,10 @@
 ghost use Rattle.std.specs.Prelude.{◌≡◌, length};
 ghost use Rattle.worked.specs.Values.{worked_values, WorkedValuesHold};
 
-// All of them hold: antt computes each from the definitions.
-fn all_hold()
-    ensures { WorkedValuesHold }
-{}
-
 // How many worked values there are. That each of them holds is what its contract says.
 pub fn worked_values_hold() -> usize
     ensures number { result ≡ length worked_values }
     ensures hold { WorkedValuesHold }
 {
-    all_hold();
     10
 }

@@ -1,0 +1,51 @@
+// A code that is one of two kinds of code.
+ghost use Rattle.tables.specs.declared.either.EitherCode.TheVariants.{Left, Right};
+
+use code::Code;
+
+#[derive(Drop)]
+pub enum EitherCode<L: Code, R: Code> {
+    Left(L),
+    Right(R),
+}
+
+impl<L: Code, R: Code> Code for EitherCode<L, R> {
+    ghost meaning = { elim [ Left code ↦ L.Code.meaning code | Right code ↦ R.Code.meaning code ] };
+
+    ghost lawful = { elim [ Left code ↦ L.Code.lawful code | Right code ↦ R.Code.lawful code ] };
+
+    fn users(&self) -> u64 {
+        match self {
+            EitherCode::Left(code) => code.users(),
+            EitherCode::Right(code) => code.users(),
+        }
+    }
+
+    fn length(&self) -> usize {
+        match self {
+            EitherCode::Left(code) => code.length(),
+            EitherCode::Right(code) => code.length(),
+        }
+    }
+
+    fn alphabet(&self) -> u16 {
+        match self {
+            EitherCode::Left(code) => code.alphabet(),
+            EitherCode::Right(code) => code.alphabet(),
+        }
+    }
+
+    fn overlap(&self) -> usize {
+        match self {
+            EitherCode::Left(code) => code.overlap(),
+            EitherCode::Right(code) => code.overlap(),
+        }
+    }
+
+    fn symbol(&self, user: u64, position: usize) -> Option<u8> {
+        match self {
+            EitherCode::Left(code) => code.symbol(user, position),
+            EitherCode::Right(code) => code.symbol(user, position),
+        }
+    }
+}
