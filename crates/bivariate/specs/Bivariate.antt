@@ -1,13 +1,18 @@
 -- Polynomials in x and y over a field of numbers.
 -- A polynomial in x is the list of its coefficients, lowest first. One in x and y is the list of its coefficients by powers of y, lowest first, each a polynomial in x.
 use Rattle.std.specs.Prelude.{◌≡◌, ℕ, suc, ◌+◌, ◌*◌, ◌<◌, ◌≤◌, if◌then◌else◌, List, [], ◌∷◌, length, ◌==◌, slice_index, slice_index_or}
-use Rattle.std.specs.List.{AllByRecursion}
+use Rattle.std.specs.Coded.{le_prop}
+use Rattle.std.specs.List.{AllByRecursion, AllByRecursion-prop}
 use Rattle.field.specs.Meaning.{FieldMeaning}
 use Rattle.field.specs.Polynomial.{value_at}
 
 -- each number is an element
 abbrev pub Elements : FieldMeaning → List ℕ → Type 0
 Elements m cs = AllByRecursion (λ c. c < m.size) cs
+
+-- a struct can keep it in a ghost field
+pub Elements-prop : (m : FieldMeaning) (cs : List ℕ) → IsProp (Elements m cs)
+Elements-prop m cs = AllByRecursion-prop (λ c. c < m.size) (λ c. le_prop) cs
 
 -- each coefficient is 0
 abbrev pub Zeros : List ℕ → Type 0

@@ -46,7 +46,8 @@ impl Terms {
     // The least d with more than n terms, or None where a is 0.
     pub fn exceeding(a: usize, n: u32) -> Option<Terms>
         ensures exist { IsSome result ↔ (1 ≤ a) }
-        ensures least { IfSome result (λ t. (t.a ≡ a) × (t.d ≡ degree_bound a n)) }
+        ensures terms { IfSome result (λ t. (t.a ≡ a) × (t.d ≡ degree_bound a n)) }
+        ensures least { IfSome result (λ t. LeastBound a n t.d) }
     {
         let d = degree_bound(a, n)?;
         Terms::new(a, d)
