@@ -28,9 +28,6 @@ module _ (m : FieldMeaning) (e q v : List ℕ) (value : ℕ) (part : v ≡ q) (s
   value_is : value ≡ dot m e q
   value_is = says ∙ ap (dot m e) part
 
-  pub value_nonzero : ¬ (dot m e q ≡ 0) → ¬ (value ≡ 0)
-  value_nonzero n z = n (sym value_is ∙ z)
-
   pub inverse_is : (inverse : ℕ) → inverse ≡ m.inverse value → inverse ≡ m.inverse (dot m e q)
   inverse_is inverse i = i ∙ ap m.inverse value_is
 

@@ -1,6 +1,6 @@
 -- Where the numbers of a vector stand, and what follows of the whole from its vectors.
 -- Assumes nothing.
-use Rattle.std.proofs.Common.{◌≡◌, ℕ, zero, suc, ◌+◌, ◌-◌, ◌*◌, ◌/◌, ◌%◌, ◌<◌, ◌≤◌, List, length, get_or, take, drop, min, ◌++◌, Some, Bor, sym, ap, ◌∙◌, subst, ap₂, ⊎_elim, mod-lt, suc-mul, mul-le-mul_right, add-one, arith}
+use Rattle.std.proofs.Common.{◌≡◌, ℕ, zero, suc, ◌+◌, ◌-◌, ◌*◌, ◌/◌, ◌%◌, ◌<◌, ◌≤◌, List, length, get_or, take, drop, ◌++◌, Some, Bor, sym, ap, ◌∙◌, subst, ⊎_elim, mod-lt, suc-mul, mul-le-mul_right, add-one, arith}
 use Rattle.std.proofs.lemmas.List.{ext_get_or, length-take, length-drop, get_or-take, get_or-drop, length-append, length-take-le, drop-take, take-take, get_or_append_left, get_or-append_right, take_at, drop_at, drop-drop}
 use Rattle.std.proofs.ByRecursion.{All-get_or, All-from_get_or, All-take, All-drop}
 use Rattle.std.proofs.lemmas.Nat.{mul-add-lt, div-mul-add, mod-mul-add, div_below, div-add-mod'}

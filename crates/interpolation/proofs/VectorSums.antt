@@ -1,9 +1,8 @@
 -- Sums of products and sums of vectors over a field of numbers.
 -- Assumes nothing.
-use Rattle.std.proofs.Common.{◌≡◌, ℕ, zero, suc, ◌+◌, ◌-◌, ◌<◌, ◌≤◌, List, [], ◌∷◌, length, get_or, drop, sym, refl, ap, ◌∙◌, subst, ap₂, arith}
+use Rattle.std.proofs.Common.{◌≡◌, ℕ, zero, suc, ◌<◌, List, [], ◌∷◌, length, get_or, sym, refl, ap, ◌∙◌, subst, ap₂, arith}
 use mathlib.Core.Path.{fst_path}
 use Rattle.std.proofs.lemmas.List.{ext_get_or, nil_from_length}
-use Rattle.std.proofs.ByRecursion.{All-get_or, All-drop}
 use Rattle.field.specs.Meaning.{FieldMeaning, FieldLaws}
 use Rattle.field.proofs.Abstract.{AbstractField, ring, mul-zero, zero-mul, add-mul, mul_assoc, mul_comm, mul-one}
 use Rattle.field.proofs.Numbers.{abstract}

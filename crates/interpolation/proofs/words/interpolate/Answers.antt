@@ -1,4 +1,4 @@
-use Rattle.std.proofs.Common.{◌≡◌, ℕ, ◌+◌, ◌*◌, List, length, sym, ◌∙◌, subst}
+use Rattle.std.proofs.Common.{length}
 use Rattle.interpolation.proofs.Accepted.{Accepted, accepted}
 use Rattle.interpolation.proofs.words.interpolate.Goals as goal
 

@@ -1,7 +1,7 @@
-use Rattle.std.proofs.Common.{◌≡◌, ℕ, ◌+◌, ◌-◌, ◌*◌, ◌<◌, List, length, take, drop, refl, sym, ap, ◌∙◌, subst, rules, arith}
+use Rattle.std.proofs.Common.{◌≡◌, ℕ, ◌+◌, ◌-◌, ◌*◌, ◌<◌, List, length, take, drop, refl, sym, ap, ◌∙◌, subst, arith}
 use Rattle.std.proofs.ByRecursion.{All-take, All-drop}
 use Rattle.bivariate.specs.Bivariate.{Elements}
-use Rattle.interpolation.proofs.Places.{part_elements, part_length}
+use Rattle.interpolation.proofs.Places.{part_elements}
 use Rattle.interpolation.proofs.VectorSums.{value-element}
 use Rattle.interpolation.proofs.ClearedVectors.{Clearing, clearing_elements, clearing_dead, clearing_apart, inverse_is, inverse-element}
 use Rattle.interpolation.proofs.equations.Equation.clear_after.Goals as goal

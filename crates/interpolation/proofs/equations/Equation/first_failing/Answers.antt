@@ -2,7 +2,7 @@ use Rattle.std.proofs.Common.{◌≡◌, ℕ, ◌<◌, ◌∙◌, List, sym, ap,
 use Rattle.std.specs.Iterator.Adapters.{enumerate_count}
 use Rattle.bivariate.specs.Bivariate.{Elements}
 use Rattle.interpolation.specs.Staircase.{dot, vector, Alive}
-use Rattle.interpolation.proofs.Places.{ahead_turn, ahead_none, vector-elements}
+use Rattle.interpolation.proofs.Places.{ahead_turn, vector-elements}
 use Rattle.interpolation.proofs.equations.Equation.first_failing.Goals as goal
 use Rattle.interpolation.proofs.equations.Equation.first_failing.Goals.{else-vector-t-ne0-via-then-vector-t-ne0+else-value-ne0, else-vector-t-ne0-via-else-vector-t-ne0}
 

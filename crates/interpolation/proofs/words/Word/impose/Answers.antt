@@ -1,4 +1,4 @@
-use Rattle.std.proofs.Common.{ℕ, ◌<◌, List, length, sym, subst, arith}
+use Rattle.std.proofs.Common.{ℕ, List, length, sym, subst}
 use Rattle.std.proofs.lemmas.List.{take_all}
 use Rattle.bivariate.specs.Bivariate.{points_from}
 use Rattle.interpolation.specs.Staircase.{Staircase}

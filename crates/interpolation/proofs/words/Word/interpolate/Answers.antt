@@ -1,4 +1,4 @@
-use Rattle.std.proofs.Common.{ℕ, length, sym, ◌∙◌, arith}
+use Rattle.std.proofs.Common.{ℕ, length, arith}
 use Rattle.std.proofs.lemmas.Grind.{common_steps}
 use Rattle.interpolation.proofs.ThroughPoints.{copied_interpolates}
 use Rattle.interpolation.proofs.WordPoints.{points-length}
