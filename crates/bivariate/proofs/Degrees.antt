@@ -108,9 +108,6 @@ module _ (a n d count : ℕ) (p : ¬ (a ≡ 0)) (is : count ≡ term_count a d) 
   pub passed_high : d ≤ n + 1
   passed_high = least_bound_high a n (omega arith) d least
 
-  pub turn_high : count ≤ n → d ≤ n
-  turn_high h = omega (arith, term_count_low a d (omega arith))
-
   pub counted_high : d / a ≤ n + 1
   counted_high = omega (arith, passed_high, div-le_self d a)
 

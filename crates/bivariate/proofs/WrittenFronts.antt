@@ -2,13 +2,9 @@
 -- Assumes nothing.
 use Rattle.std.proofs.Common.{◌≡◌, ℕ, ◌-◌, ◌≤◌, List, ◌++◌, length, take, drop, ap, ◌∙◌, arith}
 use Rattle.std.proofs.lemmas.List.{length-append, length-drop, length-take-le}
-use Rattle.std.proofs.lemmas.Slice.{drop-append-drop}
 
 pub front_length : (k : ℕ) (xs : List ℕ) → k ≤ length xs → length (take (k - 0) xs) ≡ k
 front_length k xs h = let at : k - 0 ≡ k = omega arith in ap (λ (n : ℕ). length (take n xs)) at ∙ length-take-le k xs h
 
 pub written_length : (k : ℕ) (xs ys : List ℕ) → length ys ≡ k → k ≤ length xs → length (ys ++ drop (k - 0) xs) ≡ length xs
 written_length k xs ys e h = omega (arith, length-append ys (drop (k - 0) xs), length-drop (k - 0) xs)
-
-pub written_beyond : (k : ℕ) (xs ys : List ℕ) → length ys ≡ k → drop k (ys ++ drop (k - 0) xs) ≡ drop k xs
-written_beyond k xs ys e = drop-append-drop (k - 0) xs ys k (omega arith) (omega arith)

@@ -1,13 +1,18 @@
 -- Polynomials in x and y over a field of numbers.
 -- A polynomial in x is the list of its coefficients, lowest first. One in x and y is the list of its coefficients by powers of y, lowest first, each a polynomial in x.
-use Rattle.std.specs.Prelude.{◌≡◌, ℕ, suc, ◌+◌, ◌*◌, ◌<◌, ◌≤◌, cond, List, [], ◌∷◌, length, ◌==◌, slice_index, slice_index_or}
-use Rattle.std.specs.List.{AllByRecursion}
+use Rattle.std.specs.Prelude.{◌≡◌, ℕ, suc, ◌+◌, ◌*◌, ◌<◌, ◌≤◌, if◌then◌else◌, List, [], ◌∷◌, length, ◌==◌, slice_index, slice_index_or}
+use Rattle.std.specs.Coded.{le_prop}
+use Rattle.std.specs.List.{AllByRecursion, AllByRecursion-prop}
 use Rattle.field.specs.Meaning.{FieldMeaning}
 use Rattle.field.specs.Polynomial.{value_at}
 
 -- each number is an element
 abbrev pub Elements : FieldMeaning → List ℕ → Type 0
 Elements m cs = AllByRecursion (λ c. c < m.size) cs
+
+-- a struct can keep it in a ghost field
+pub Elements-prop : (m : FieldMeaning) (cs : List ℕ) → IsProp (Elements m cs)
+Elements-prop m cs = AllByRecursion-prop (λ c. c < m.size) (λ c. le_prop) cs
 
 -- each coefficient is 0
 abbrev pub Zeros : List ℕ → Type 0
@@ -60,7 +65,7 @@ coefficient Q g j = slice_index (slice_index_or Q j []) g
 -- how many of the points (x, y) have f(x) = y
 abbrev pub agreement : FieldMeaning → List ℕ → List (ℕ × ℕ) → ℕ
 agreement m f [] = 0
-agreement m f (p ∷ ps) = cond (value_at m f p.0 == p.1) 1 0 + agreement m f ps
+agreement m f (p ∷ ps) = (if value_at m f p.0 == p.1 then 1 else 0) + agreement m f ps
 
 -- the points are pairs of elements
 abbrev pub PointsOf : FieldMeaning → List (ℕ × ℕ) → Type 0

@@ -20,8 +20,8 @@ pub fn agreement<F: Field>(field: &F, word: &[u8], coefficients: &[u8]) -> Optio
         return None;
     }
     let mut count = 0;
-    for i in 0..word.len() {
-        if value_at(field, coefficients, i as u8)? == word[i] {
+    for (i, number) in word.iter().enumerate() {
+        if value_at(field, coefficients, i as u8)? == *number {
             count += 1;
         }
     }

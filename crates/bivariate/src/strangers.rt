@@ -9,12 +9,7 @@ pub fn first_stranger<F: Field>(field: &F, numbers: &[u8]) -> Option<usize>
     ensures { result ≡ stranger_answer (F.Field.meaning field.now) numbers.now }
 {
     let size = field.size();
-    for (i, number) in numbers.iter().enumerate() {
-        if *number as u16 >= size {
-            return Some(i);
-        }
-    }
-    None
+    numbers.iter().position(|number| *number as u16 >= size)
 }
 
 // Whether each number is an element.

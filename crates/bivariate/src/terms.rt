@@ -1,11 +1,11 @@
 // The terms x^g·y^j with g + a·j < d: how great d must be for them to outnumber some points, and where their coefficients stand.
-ghost use Rattle.std.specs.Prelude.{◌≡◌, ◌≤◌, ◌↔◌, ◌||◌, IsSome, IfSome, if◌then◌else◌, Some, None, MatchOption, ◌==◌, nat_eq};
+ghost use Rattle.std.specs.Prelude.{◌≡◌, ◌≤◌, ◌↔◌, ◌||◌, IsSome, IfSome, if◌then◌else◌, Some, None, MatchOption, ◌==◌};
 ghost use Rattle.bivariate.specs.Bivariate.{coefficient};
-ghost use Rattle.bivariate.specs.Terms.{degree_bound, LeastBound, polynomial};
+ghost use Rattle.bivariate.specs.Terms.{degree_bound, LeastBound, most_y, polynomial};
 
 // The least d with more than n terms, or None where a is 0.
 pub fn degree_bound(a: usize, n: u32) -> Option<usize>
-    ensures answer { result ≡ (if nat_eq a 0 then None else Some (degree_bound a n)) }
+    ensures answer { result ≡ (if a == 0 then None else Some (degree_bound a n)) }
     ensures least { MatchOption result (a ≡ 0) (λ d. LeastBound a n d) }
 {
     if a == 0 {
@@ -13,6 +13,7 @@ pub fn degree_bound(a: usize, n: u32) -> Option<usize>
     }
     let mut d = 0usize;
     let mut count = 0usize;
+    // no plainer as a `for`: d is what is sought, and a range of it would need an end that it never reaches
     while count <= n as usize {
         // one more x for each j with a·j up to d
         count += d / a + 1;
@@ -42,6 +43,23 @@ impl Terms {
         Some(Terms { a, d })
     }
 
+    // The least d with more than n terms, or None where a is 0.
+    pub fn exceeding(a: usize, n: u32) -> Option<Terms>
+        ensures exist { IsSome result ↔ (1 ≤ a) }
+        ensures terms { IfSome result (λ t. (t.a ≡ a) × (t.d ≡ degree_bound a n)) }
+        ensures least { IfSome result (λ t. LeastBound a n t.d) }
+    {
+        let d = degree_bound(a, n)?;
+        Terms::new(a, d)
+    }
+
+    // The greatest power of y among them.
+    pub fn most_y(&self) -> usize
+        ensures { result ≡ most_y self.now.a self.now.d }
+    {
+        (self.d - 1) / self.a
+    }
+
     // The coefficient of x^g·y^j in the polynomial with these coefficients, in the order of its terms.
     pub fn coefficient(&self, coefficients: &[u8], g: usize, j: usize) -> u8
         ensures { result ≡ coefficient (polynomial self.now.a self.now.d coefficients.now) g j }
@@ -67,7 +85,7 @@ impl Terms {
 
 // The coefficient of x^g·y^j in the polynomial with these coefficients, in the order of its terms, or None where a or d is 0.
 pub fn coefficient_at(a: usize, d: usize, coefficients: &[u8], g: usize, j: usize) -> Option<u8>
-    ensures { result ≡ (if nat_eq a 0 || d == 0 then None else Some (coefficient (polynomial a d coefficients.now) g j)) }
+    ensures { result ≡ (if a == 0 || d == 0 then None else Some (coefficient (polynomial a d coefficients.now) g j)) }
 {
     let terms = Terms::new(a, d)?;
     Some(terms.coefficient(coefficients, g, j))

@@ -20,11 +20,9 @@ pub fn value_at<F: Field>(field: &F, coefficients: &[u8], x: u8) -> Option<u8>
     if x as u16 >= field.size() {
         return None;
     }
-    let mut value = 0u8;
-    let mut i = coefficients.len();
-    while i > 0 {
-        i -= 1;
-        value = multiply_add(field, coefficients[i], x, value)?;
+    let mut value = 0;
+    for coefficient in coefficients.iter().rev() {
+        value = multiply_add(field, *coefficient, x, value)?;
     }
     Some(value)
 }

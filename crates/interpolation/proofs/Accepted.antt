@@ -1,14 +1,13 @@
--- What is known where no row of the table of faults holds, and of the parts of the slices that are then written.
+-- What is known where no row of the table of faults holds.
 -- Assumes nothing.
-use Rattle.std.proofs.Common.{◌≡◌, ℕ, ◌+◌, ◌-◌, ◌*◌, ◌<◌, ◌≤◌, cond, eqb, leb, List, length, take, Some, None, Option, unwrap_or, sym, ap, ◌∙◌, subst, ap₂, arith}
+use Rattle.std.proofs.Common.{◌≡◌, ℕ, ◌+◌, ◌*◌, ◌≤◌, cond, eqb, leb, List, length, Some, None, Option, unwrap_or, sym, ap, ◌∙◌, subst, arith}
 use Rattle.std.proofs.lemmas.Bool.{not-false, and_parts, leb-true, ltb-false, ne_eqb, cond-false}
 use Rattle.field.specs.Meaning.{FieldMeaning}
 use Rattle.bivariate.specs.Bivariate.{Elements}
-use Rattle.bivariate.specs.Terms.{term_count, degree_bound}
+use Rattle.bivariate.specs.Terms.{degree_bound}
 use Rattle.bivariate.specs.Values.{elements_only}
 use Rattle.bivariate.proofs.ElementTests.{elements_from}
-use Rattle.bivariate.proofs.WrittenFronts.{front_length}
-use Rattle.bivariate.proofs.Degrees.{degree_bound_least, degree_bound_low}
+use Rattle.bivariate.proofs.Degrees.{degree_bound_low}
 use Rattle.refusal.specs.Tables.{first_refusal}
 use Rattle.refusal.specs.Tables.{within}
 use Rattle.refusal.proofs.Rows.{no_row}
@@ -44,12 +43,3 @@ module _ (a n d : ℕ) (o : Option ℕ) (weight : 1 ≤ a) (answer : o ≡ cond 
 
   pub bound_low : 1 ≤ d
   bound_low = subst (λ (e : ℕ). 1 ≤ e) (sym bound_is) (degree_bound_low a n weight)
-
-  pub bound_terms : n < term_count a d
-  bound_terms = subst (λ (e : ℕ). n < term_count a e) (sym bound_is) (degree_bound_least a n weight).exceeds
-
--- ---- the parts of the slices that are written
-
-pub square_length : (k : ℕ) (xs ys : List ℕ) → k ≤ length xs → k * k ≤ length ys
-    → length (take (k * k - 0) ys) ≡ length (take (k - 0) xs) * length (take (k - 0) xs)
-square_length k xs ys h l = front_length (k * k) ys l ∙ sym (ap₂ ◌*◌ (front_length k xs h) (front_length k xs h))

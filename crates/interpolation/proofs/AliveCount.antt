@@ -14,8 +14,8 @@ at_most_one : (x : ℕ) → cond (eqb x 0) 0 1 ≤ 1
 at_most_one x = ⊎_elim (λ e. omega (arith, none_more x e)) (λ n. omega (arith, one_more x n)) (cases_eq x 0)
 
 -- none is alive up to k, and k is not
-pub count_none : (w : ℕ) (vs : List ℕ) (k : ℕ) → alive_count w vs k ≡ 0 → entry w vs k k ≡ 0 → alive_count w vs (k + 1) ≡ 0
-count_none w vs k h e = ap (alive_count w vs) (add-one k) ∙ ap₂ ◌+◌ (none_more (entry w vs k k) e) h
+pub count_none : (w : ℕ) (vs : List ℕ) (k next : ℕ) → next ≡ k + 1 → alive_count w vs k ≡ 0 → entry w vs k k ≡ 0 → alive_count w vs next ≡ 0
+count_none w vs k next after h e = ap (alive_count w vs) (after ∙ add-one k) ∙ ap₂ ◌+◌ (none_more (entry w vs k k) e) h
 
 -- ---- vectors of which one may die
 

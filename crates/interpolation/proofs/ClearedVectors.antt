@@ -1,13 +1,13 @@
 -- The vectors behind vector p made to solve an equation, one after another.
 -- Assumes nothing.
-use Rattle.std.proofs.Common.{◌≡◌, ℕ, ◌+◌, ◌*◌, ◌<◌, ◌≤◌, eqb, List, length, get_or, sym, refl, ap, ◌∙◌, subst, ⊎_elim, arith}
+use Rattle.std.proofs.Common.{◌≡◌, ℕ, ◌+◌, ◌*◌, ◌<◌, ◌≤◌, eqb, List, length, get_or, take, drop, ◌++◌, sym, ap, ap₂, ◌∙◌, subst, ⊎_elim, arith}
 use Rattle.std.proofs.lemmas.Bool.{cases_eq, cases_lt, eq-eqb, ne_eqb, cond-true, cond-false, cond_both}
 use Rattle.field.specs.Meaning.{FieldMeaning, FieldLaws}
 use Rattle.bivariate.specs.Bivariate.{Elements}
 use Rattle.interpolation.specs.Staircase.{dot, plus, vector, entry, Alive}
 use Rattle.interpolation.specs.Clearing.{factor, cleared}
 use Rattle.interpolation.proofs.VectorSums.{dot-element, plus-elements}
-use Rattle.interpolation.proofs.Places.{vector-entry, vector-elements, elements-by_vectors}
+use Rattle.interpolation.proofs.Places.{vector-entry, vector-elements, part_length, elements-by_vectors, front-vector, put_same, put_other}
 
 -- those behind p and before t are cleared, and all others are as they were
 abbrev pub Clearing : FieldMeaning → ℕ → ℕ → List ℕ → List ℕ → ℕ → List ℕ → Type 0
@@ -15,9 +15,6 @@ Clearing m w p e old t vs =
     ((s : ℕ) → s < w → s ≤ p → vector w vs s ≡ vector w old s)
     × ((s : ℕ) → s < w → t ≤ s → vector w vs s ≡ vector w old s)
     × ((s : ℕ) → s < w → p < s → s < t → vector w vs s ≡ cleared m e (vector w old p) s (vector w old s))
-
-pub clearing_none : (m : FieldMeaning) (w p : ℕ) (e old : List ℕ) → Clearing m w p e old (p + 1) old
-clearing_none m w p e old = ((λ s hs l. refl), (λ s hs l. refl), (λ s hs l h. absurd (omega arith)))
 
 -- what clearing does to a vector that is alive, and to one that is not
 pub cleared_alive : (m : FieldMeaning) (e q : List ℕ) (t : ℕ) (v : List ℕ) → ¬ (get_or v t 0 ≡ 0) → cleared m e q t v ≡ plus m v (factor m e q v) q
@@ -30,9 +27,6 @@ cleared_dead m e q t v z = cond-true (eqb (get_or v t 0) 0) v (plus m v (factor 
 module _ (m : FieldMeaning) (e q v : List ℕ) (value : ℕ) (part : v ≡ q) (says : value ≡ dot m e v) where
   value_is : value ≡ dot m e q
   value_is = says ∙ ap (dot m e) part
-
-  pub value_nonzero : ¬ (dot m e q ≡ 0) → ¬ (value ≡ 0)
-  value_nonzero n z = n (sym value_is ∙ z)
 
   pub inverse_is : (inverse : ℕ) → inverse ≡ m.inverse value → inverse ≡ m.inverse (dot m e q)
   inverse_is inverse i = i ∙ ap m.inverse value_is
@@ -118,3 +112,18 @@ module _ (m : FieldMeaning) (w p : ℕ) (e old : List ℕ) (t : ℕ) (ht : t < w
           (λ q. subst (λ (n : ℕ). vector w new n ≡ cleared m e (vector w old p) n (vector w old n)) (sym q) here)
           (λ n. others s hs n ∙ h.2 s hs l (let z : s < t = omega (arith, n) in z))
           (cases_eq s t)
+
+  -- the same where the vectors from t on are apart, and vector t is written
+  pub clearing_apart : Alive w vs t → (inverse : ℕ) → inverse ≡ m.inverse (dot m e (vector w old p)) → length vs ≡ w * w
+      → (front back : List ℕ) → front ≡ take (t * w) vs → back ≡ drop (t * w) vs
+      → (part other new : List ℕ) → part ≡ take w back → other ≡ take w (drop (p * w) front) → length new ≡ length part
+      → new ≡ plus m part (m.negative (m.product (dot m e part) inverse)) other
+      → (put : List ℕ) → put ≡ front ++ (new ++ drop w back) → Clearing m w p e old (t + 1) put
+  clearing_apart a inverse i sized front back before after part other new own pivot same changed put is =
+      let here : part ≡ vector w vs t = own ∙ ap (take w) after in
+      let long : length new ≡ w = same ∙ part_length w vs sized t part here ht in
+      let there : other ≡ vector w vs p = pivot ∙ front-vector w vs sized t ht front back before after p hp in
+      clearing_alive a inverse i put
+      (put_same w vs sized t ht front back before after new put long is ∙ changed
+      ∙ ap₂ (λ (v q : List ℕ). plus m v (m.negative (m.product (dot m e v) inverse)) q) here there)
+      (put_other w vs sized t ht front back before after new put long is)

@@ -2,7 +2,6 @@ pub mod TermValues
 pub mod EquationSteps
 pub mod VectorSums
 pub mod Places
-pub mod Adding
 pub mod AliveCount
 pub mod UnitVectors
 pub mod ClearedVectors

@@ -1,9 +1,8 @@
 -- Sums of products and sums of vectors over a field of numbers.
 -- Assumes nothing.
-use Rattle.std.proofs.Common.{◌≡◌, ℕ, zero, suc, ◌+◌, ◌-◌, ◌<◌, ◌≤◌, List, [], ◌∷◌, length, get_or, drop, sym, refl, ap, ◌∙◌, subst, ap₂, arith}
+use Rattle.std.proofs.Common.{◌≡◌, ℕ, zero, suc, ◌<◌, List, [], ◌∷◌, length, get_or, sym, refl, ap, ◌∙◌, subst, ap₂, arith}
 use mathlib.Core.Path.{fst_path}
-use Rattle.std.proofs.lemmas.List.{drop_more}
-use Rattle.std.proofs.ByRecursion.{All-get_or, All-drop}
+use Rattle.std.proofs.lemmas.List.{ext_get_or, nil_from_length}
 use Rattle.field.specs.Meaning.{FieldMeaning, FieldLaws}
 use Rattle.field.proofs.Abstract.{AbstractField, ring, mul-zero, zero-mul, add-mul, mul_assoc, mul_comm, mul-one}
 use Rattle.field.proofs.Numbers.{abstract}
@@ -31,6 +30,13 @@ module _ (F : AbstractField) where
 
 -- ---- over a field of numbers
 
+-- The products so far have this sum, and those of the numbers that are left are still to be added.
+pub record Summed (m : FieldMeaning) (e v e' v' : List ℕ) (s : ℕ) : Type 0 where
+  pub left : Elements m e'
+  pub right : Elements m v'
+  pub element : s < m.size
+  pub whole : m.sum s (dot m e' v') ≡ dot m e v
+
 module _ (m : FieldMeaning) (laws : FieldLaws m) where
   pub zero-element : 0 < m.size
   zero-element = omega (arith, laws.size_low)
@@ -44,27 +50,45 @@ module _ (m : FieldMeaning) (laws : FieldLaws m) where
   pub value-element : (e v : List ℕ) (s : ℕ) → s ≡ dot m e v → Elements m e → Elements m v → s < m.size
   value-element e v s is he hv = subst (λ (x : ℕ). x < m.size) (sym is) (dot-element e v he hv)
 
-  -- a sum of products from its end on
-  pub dot_step : (e v : List ℕ) (i s r : ℕ) → Elements m e → Elements m v → length e ≡ length v → 0 < i → i ≤ length v → s ≡ dot m (drop i e) (drop i v)
-      → r ≡ m.sum s (m.product (get_or e (i - 1) 0) (get_or v (i - 1) 0)) → r ≡ dot m (drop (i - 1) e) (drop (i - 1) v)
-  dot_step e v i s r he hv l pos hi hs hr =
-      let a : ℕ = get_or e (i - 1) 0 in
-      let x : ℕ = get_or v (i - 1) 0 in
-      let next : i - 1 + 1 ≡ i = omega arith in
-      let ia : i - 1 < length e = omega arith in
-      let ix : i - 1 < length v = omega arith in
-      let ha : a < m.size = All-get_or (λ c. c < m.size) e (i - 1) 0 ia he in
-      let hx : x < m.size = All-get_or (λ c. c < m.size) v (i - 1) 0 ix hv in
-      let de : drop (i - 1) e ≡ a ∷ drop i e = drop_more e (i - 1) 0 ia ∙ ap (λ (n : ℕ). a ∷ drop n e) next in
-      let dv : drop (i - 1) v ≡ x ∷ drop i v = drop_more v (i - 1) 0 ix ∙ ap (λ (n : ℕ). x ∷ drop n v) next in
-      hr ∙ ap (λ (t : ℕ). m.sum t (m.product a x)) hs
-      ∙ laws.sum_comm _ _ (dot-element (drop i e) (drop i v) (All-drop (λ c. c < m.size) i e he) (All-drop (λ c. c < m.size) i v hv)) (laws.product_closed a x ha hx)
-      ∙ sym (ap₂ (dot m) de dv)
+  -- a sum of products, from its first on
+  pub summed_none : (e v : List ℕ) → Elements m e → Elements m v → Summed m e v e v 0
+  summed_none e v he hv =
+      let total : dot m e v < m.size = dot-element e v he hv in
+      record {
+        left = he;
+        right = hv;
+        element = zero-element;
+        whole = laws.sum_comm 0 (dot m e v) zero-element total ∙ laws.sum-zero (dot m e v) total;
+      }
 
-  pub part_element : (e v : List ℕ) (i s : ℕ) → Elements m e → Elements m v → s ≡ dot m (drop i e) (drop i v) → s < m.size
-  part_element e v i s he hv hs =
-      subst (λ (x : ℕ). x < m.size) (sym hs)
-      (dot-element (drop i e) (drop i v) (All-drop (λ c. c < m.size) i e he) (All-drop (λ c. c < m.size) i v hv))
+  module _ (e v e' v' : List ℕ) (s : ℕ) (h : Summed m e v e' v' s) where
+    pub summed_more : (a x : ℕ) (es vs : List ℕ) → e' ≡ a ∷ es → v' ≡ x ∷ vs → (r : ℕ) → r ≡ m.sum s (m.product a x) → Summed m e v es vs r
+    summed_more a x es vs ce cv r is =
+        let he : Elements m (a ∷ es) = subst (Elements m) ce h.left in
+        let hv : Elements m (x ∷ vs) = subst (Elements m) cv h.right in
+        let ax : m.product a x < m.size = laws.product_closed a x he.0 hv.0 in
+        record {
+          left = he.1;
+          right = hv.1;
+          element = subst (λ (y : ℕ). y < m.size) (sym is) (laws.sum_closed s _ h.element ax);
+          whole =
+              ap (λ (y : ℕ). m.sum y (dot m es vs)) is
+              ∙ laws.sum_assoc s (m.product a x) (dot m es vs) h.element ax (dot-element es vs he.1 hv.1)
+              ∙ sym (ap₂ (λ (k l : List ℕ). m.sum s (dot m k l)) ce cv) ∙ h.whole;
+        }
+
+    ended : dot m e' v' ≡ 0 → s ≡ dot m e v
+    ended z = sym (ap (m.sum s) z ∙ laws.sum-zero s h.element) ∙ h.whole
+
+    pub summed_left : length e' ≡ 0 → s ≡ dot m e v
+    summed_left z = ended (ap (λ (k : List ℕ). dot m k v') (nil_from_length e' z))
+
+    pub summed_right : length v' ≡ 0 → s ≡ dot m e v
+    summed_right z = ended (ap (dot m e') (nil_from_length v' z) ∙ dot-nothing e')
+      where
+        dot-nothing : (k : List ℕ) → dot m k [] ≡ 0
+        dot-nothing [] = refl
+        dot-nothing (a ∷ k) = refl
 
   pub product-zero : (c : ℕ) → c < m.size → m.product c 0 ≡ 0
   product-zero c h = fst_path (mul-zero (abstract m laws) (c, h))
@@ -97,6 +121,13 @@ module _ (m : FieldMeaning) (laws : FieldLaws m) where
     get_or-plus (x ∷ v) [] k hv hp = absurd (omega arith)
     get_or-plus (x ∷ v) (y ∷ p) zero hv hp = refl
     get_or-plus (x ∷ v) (y ∷ p) (suc k) hv hp = get_or-plus v p k (omega arith) (omega arith)
+
+    -- a vector is this sum where each of its numbers is
+    pub plus_is : (v p new : List ℕ) → length new ≡ length v → length v ≡ length p
+        → ((k : ℕ) → k < length v → get_or new k 0 ≡ m.sum (get_or v k 0) (m.product c (get_or p k 0))) → new ≡ plus m v c p
+    plus_is v p new long same each =
+        ext_get_or 0 new (plus m v c p) (long ∙ sym (plus-length v p))
+        (λ k h. let l : k < length v = omega arith in each k l ∙ sym (get_or-plus v p k l (omega arith)))
 
     pub dot-plus : (e v p : List ℕ) → Elements m e → Elements m v → Elements m p → length v ≡ length p
         → dot m e (plus m v c p) ≡ m.sum (dot m e v) (m.product c (dot m e p))

@@ -42,3 +42,10 @@ pub record Staircase (m : FieldMeaning) (w : ℕ) (vs : List ℕ) : Type 0 where
 -- each vector that is alive solves the equation
 abbrev pub Solves : FieldMeaning → ℕ → List ℕ → List ℕ → Type 0
 Solves m w vs e = (t : ℕ) → t < w → Alive w vs t → dot m e (vector w vs t) ≡ 0
+
+-- p is the first vector that is alive and fails the equation
+pub record FirstFailing (m : FieldMeaning) (w : ℕ) (vs e : List ℕ) (p : ℕ) : Type 0 where
+  pub within : p < w
+  pub alive : Alive w vs p
+  pub fails : ¬ (dot m e (vector w vs p) ≡ 0)
+  pub before : (t : ℕ) → t < p → Alive w vs t → dot m e (vector w vs t) ≡ 0

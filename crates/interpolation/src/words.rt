@@ -1,15 +1,15 @@
 // A polynomial that is 0 at the points of a word.
 ghost use Rattle.std.specs.Prelude.{◌≡◌, ◌+◌, ◌*◌, ◌<◌, ◌≤◌, true, [], length, take, drop, is_err};
-ghost use Rattle.bivariate.specs.Bivariate.{Elements, points_from, Interpolates};
+ghost use Rattle.bivariate.specs.Bivariate.{Elements, Elements-prop, points_from, Interpolates};
 ghost use Rattle.bivariate.specs.Terms.{term_count, degree_bound, polynomial};
 ghost use Rattle.refusal.specs.Tables.{Answers};
 ghost use Rattle.interpolation.specs.Interpolation.{interpolation_rows};
 ghost use Rattle.interpolation.specs.Through.{Through};
 
 use crate::fault::Fault;
-use crate::points::impose_point;
-use crate::staircase::{solution, start, vector};
-use bivariate::{degree_bound, first_stranger};
+use crate::points::Point;
+use crate::staircase::{first_alive, start};
+use bivariate::{Terms, first_stranger};
 use field::Field;
 
 // Refuses what cannot be interpolated.
@@ -41,45 +41,47 @@ fn check<F: Field>(
     }
 }
 
-// Imposes the points of the word, one position after another.
-fn impose_word<F: Field>(
-    field: &F,
-    a: usize,
-    d: usize,
-    word: &[u8],
-    equation: &mut [u8],
-    vectors: &mut [u8],
-)
-    requires elements { Elements (F.Field.meaning field.now) word.now }
-    requires places { length word.now ≤ (F.Field.meaning field.now).size }
-    requires weight { 1 ≤ a }
-    requires degree { 1 ≤ d }
-    requires room { length equation.old ≤ term_count a d }
-    requires few { length equation.old ≤ 65536 }
-    requires begun { Through (F.Field.meaning field.now) a d (length equation.old) [] vectors.old }
-    ensures { Through (F.Field.meaning field.now) a d (length equation.old) (points_from 0 word.now) vectors.new }
-{
-    for i in 0..word.len() {
-        impose_point(field, a, d, i as u8, word[i], equation, vectors);
-    }
+// A word of elements, with an element for each of its positions.
+#[derive(Drop)]
+struct Word<'a, F: Field> {
+    field: &'a F,
+    numbers: &'a [u8],
+    ghost elements: { Elements (F.Field.meaning field.now) numbers.now } by { Elements-prop (F.Field.meaning field.now) numbers.now },
+    ghost places: { length numbers.now ≤ (F.Field.meaning field.now).size },
 }
 
-// Writes a polynomial that is 0 at the points of the word, given memory for as many vectors as it has coefficients.
-fn solve<F: Field>(field: &F, a: usize, d: usize, word: &[u8], out: &mut [u8], vectors: &mut [u8])
-    requires elements { Elements (F.Field.meaning field.now) word.now }
-    requires places { length word.now ≤ (F.Field.meaning field.now).size }
-    requires weight { 1 ≤ a }
-    requires degree { 1 ≤ d }
-    requires terms { length word.now < term_count a d }
-    requires room { length out.old ≡ length word.now + 1 }
-    requires memory { length vectors.old ≡ length out.old * length out.old }
-    ensures { Interpolates (F.Field.meaning field.now) a d (points_from 0 word.now) (polynomial a d out.new) }
-{
-    let w = out.len();
-    start(w, vectors);
-    impose_word(field, a, d, word, out, vectors);
-    let t = solution(w, vectors);
-    out.copy_from_slice(vector(w, vectors, t));
+impl<'a, F: Field> Word<'a, F> {
+    // Imposes the points of the word, one position after another.
+    fn impose(&self, terms: Terms, equation: &mut [u8], vectors: &mut [u8])
+        requires wide { 0 < length equation.old }
+        requires room { length equation.old ≤ term_count terms.a terms.d }
+        requires begun { Through (F.Field.meaning self.now.field.now) terms.a terms.d (length equation.old) [] vectors.old }
+        ensures { Through (F.Field.meaning self.now.field.now) terms.a terms.d (length equation.old) (points_from 0 self.now.numbers.now) vectors.new }
+    {
+        for (x, y) in self.numbers.iter().enumerate() {
+            let point = Point {
+                field: self.field,
+                x: x as u8,
+                y: *y,
+            };
+            point.impose(terms, equation, vectors);
+        }
+    }
+
+    // Writes a polynomial that is 0 at the points of the word, given memory for as many vectors as it has coefficients.
+    fn interpolate(&self, terms: Terms, out: &mut [u8], vectors: &mut [u8])
+        requires terms { length self.now.numbers.now < term_count terms.a terms.d }
+        requires room { length out.old ≡ length self.now.numbers.now + 1 }
+        requires memory { length vectors.old ≡ length out.old * length out.old }
+        ensures { Interpolates (F.Field.meaning self.now.field.now) terms.a terms.d (points_from 0 self.now.numbers.now) (polynomial terms.a terms.d out.new) }
+    {
+        let w = out.len();
+        start(w, vectors);
+        self.impose(terms, out, vectors);
+        // more vectors than points, of which each makes at most one die
+        let solution = first_alive(w, vectors).unwrap();
+        out.copy_from_slice(solution);
+    }
 }
 
 // Writes to the first n + 1 places of `coefficients` a polynomial with terms x^g·y^j of g + a·j < d that is 0 at the
@@ -98,14 +100,11 @@ pub fn interpolate<F: Field>(
 {
     check(field, a, word, coefficients.len(), memory.len())?;
     let w = word.len() + 1;
-    let d = degree_bound(a, word.len() as u32).unwrap_or(0);
-    solve(
+    let terms = Terms::exceeding(a, word.len() as u32).unwrap();
+    let word = Word {
         field,
-        a,
-        d,
-        word,
-        &mut coefficients[0..w],
-        &mut memory[0..w * w],
-    );
-    Ok(d)
+        numbers: word,
+    };
+    word.interpolate(terms, &mut coefficients[..w], &mut memory[..w * w]);
+    Ok(terms.d)
 }

@@ -1,14 +1,10 @@
-use Rattle.std.proofs.Common.{◌≡◌, ◌<◌, ◌≤◌, true, length, drop}
-use Rattle.field.specs.Polynomial.{value_at}
-use Rattle.bivariate.specs.Values.{elements_only}
+use Rattle.std.specs.Iterator.Adapters.{rev_source}
+use Rattle.std.specs.Slice.Iter.{iter_rest}
+use Rattle.bivariate.proofs.ValueSteps.{Taken}
 use Rattle.bivariate.proofs.values.value_at.Given as goal
 
--- what is known of the coefficients from i on
-abbrev pub invariant-loop-i : goal.invariant-loop-i
-invariant-loop-i g l =
-    let m = g.F.Field.meaning l.field in
-    let cs = l.coefficients in
-    (l.i ≤ length cs) × (elements_only m (drop l.i cs) ≡ true) × (l.value ≡ value_at m (drop l.i cs) l.x) × (l.value < m.size)
-
-abbrev pub decreases-loop-i : goal.decreases-loop-i
-decreases-loop-i g l = l.i
+abbrev pub invariant-loop-coefficient : goal.invariant-loop-coefficient
+invariant-loop-coefficient g l =
+    (goal.iterator-loop-coefficient g).can_next l.coefficient-iterator
+    × (goal.iterator-loop-coefficient g).is_finite l.coefficient-iterator
+    × Taken (g.F.Field.meaning l.field) l.coefficients l.x (iter_rest (rev_source l.coefficient-iterator)) l.value

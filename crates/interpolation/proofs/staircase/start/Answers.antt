@@ -9,18 +9,18 @@ loop-t-init c =
 
 pub bounds-vectors-t : goal.bounds-vectors-t
 bounds-vectors-t c =
-    place_below c.args.w c.loop-t.vectors (c.loop-t.auto.vectors ∙ c.fill.ensures.len ∙ c.requires.sized) c.loop-t.t c.loop-t.t
+    place_below c.args.w c.loop-t.vectors (c.loop-t.auto.vectors ∙ c.fill.ensures.len ∙ c.requires) c.loop-t.t c.loop-t.t
     c.loop-t-test.true c.loop-t-test.true
 
 pub loop-t-preserved : goal.loop-t-preserved
 loop-t-preserved c =
-    units_more c.args.w c.loop-t.t c.loop-t.vectors (c.loop-t.auto.vectors ∙ c.fill.ensures.len ∙ c.requires.sized) c.loop-t-test.true c.loop-t.invariant
+    units_more c.args.w c.loop-t.t c.loop-t.vectors (c.loop-t.auto.vectors ∙ c.fill.ensures.len ∙ c.requires) c.loop-t-test.true c.loop-t.invariant
 
 pub returns : goal.returns
 returns c =
     let w : ℕ = c.args.w in
     let vs : List ℕ = c.loop-t.vectors in
-    let sized : length vs ≡ w * w = c.loop-t.auto.vectors ∙ c.fill.ensures.len ∙ c.requires.sized in
+    let sized : length vs ≡ w * w = c.loop-t.auto.vectors ∙ c.fill.ensures.len ∙ c.requires in
     let done : c.loop-t.t ≡ w = omega (arith, c.loop-t-test.false) in
     let units : Units w w vs = subst (λ (t : ℕ). Units w t vs) done c.loop-t.invariant in
     record {

@@ -1,0 +1,42 @@
+// Operations on the elements of a field, which have an answer there.
+ghost use Rattle.std.specs.Prelude.{◌≡◌, ◌<◌};
+
+use bivariate::multiply_add;
+use field::Field;
+
+// a·b
+pub(crate) fn product<F: Field>(field: &F, a: u8, b: u8) -> u8
+    requires left { a < (F.Field.meaning field.now).size }
+    requires right { b < (F.Field.meaning field.now).size }
+    ensures { result ≡ (F.Field.meaning field.now).product a b }
+{
+    field.product(a, b).unwrap()
+}
+
+// a + b·c
+pub(crate) fn plus_product<F: Field>(field: &F, a: u8, b: u8, c: u8) -> u8
+    requires first { a < (F.Field.meaning field.now).size }
+    requires second { b < (F.Field.meaning field.now).size }
+    requires third { c < (F.Field.meaning field.now).size }
+    ensures { result ≡ (F.Field.meaning field.now).sum a ((F.Field.meaning field.now).product b c) }
+{
+    multiply_add(field, a, b, c).unwrap()
+}
+
+// -(a·b)
+pub(crate) fn negative_product<F: Field>(field: &F, a: u8, b: u8) -> u8
+    requires first { a < (F.Field.meaning field.now).size }
+    requires second { b < (F.Field.meaning field.now).size }
+    ensures { result ≡ (F.Field.meaning field.now).negative ((F.Field.meaning field.now).product a b) }
+{
+    field.negative(product(field, a, b)).unwrap()
+}
+
+// 1/a
+pub(crate) fn reciprocal<F: Field>(field: &F, a: u8) -> u8
+    requires element { a < (F.Field.meaning field.now).size }
+    requires nonzero { ¬ (a ≡ 0) }
+    ensures { result ≡ (F.Field.meaning field.now).inverse a }
+{
+    field.inverse(a).unwrap()
+}
