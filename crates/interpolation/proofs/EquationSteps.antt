@@ -1,11 +1,11 @@
 -- The state between two terms of an equation, and what one term more makes of it.
 -- Assumes nothing.
 use Rattle.std.proofs.Common.{◌≡◌, ℕ, zero, suc, ◌+◌, ◌-◌, ◌*◌, ◌<◌, ◌≤◌, List, [], ◌∷◌, ◌++◌, length, get_or, take, drop, set, sym, refl, ap, ◌∙◌, subst, ap₂, ⊎_elim, mul-zero, mul-suc, arith}
-use Rattle.std.proofs.lemmas.List.{drop-drop, drop_more, length-drop, take_more, take_more_set, take_all}
+use Rattle.std.proofs.lemmas.List.{drop-drop, drop_more, length-drop, take_more, take_more_set}
 use Rattle.std.proofs.lemmas.Bool.{cases_lt}
 use Rattle.field.specs.Meaning.{FieldMeaning, FieldLaws}
-use Rattle.bivariate.specs.Terms.{term_count, most_y, powers, monomials_from, monomials}
-use Rattle.bivariate.proofs.Widths.{most_covers, length-monomials}
+use Rattle.bivariate.specs.Terms.{term_count, powers, monomials_from, monomials}
+use Rattle.bivariate.proofs.Widths.{length-monomials}
 
 -- `rest` is what is still to be written: `left` terms of a power of y, from `value` on, and those of the next `higher` powers.
 pub record Standing (m : FieldMeaning) (a x y : ℕ) (rest : List ℕ) (value first width left : ℕ) : Type 0 where
@@ -22,17 +22,6 @@ monomials_none m a x y d (suc k) v e =
     ap₂ (λ (w : ℕ) (l : List ℕ). powers m x w v ++ l) e (monomials_none m a x y (d - a) k (m.product y v) (omega arith))
 
 module _ (m : FieldMeaning) (laws : FieldLaws m) (a x y : ℕ) (hx : x < m.size) (hy : y < m.size) where
-  pub standing_first : (d : ℕ) → 1 ≤ a → 1 ≤ d → Standing m a x y (monomials m a d x y) 1 1 d d
-  standing_first d p q =
-      record {
-        value-element = laws.size_low;
-        first_element = laws.size_low;
-        ended = λ e. e;
-        higher = most_y a d;
-        covers = most_covers a d p q;
-        ahead = refl;
-      }
-
   module _ (rest : List ℕ) (value first width left : ℕ) (s : Standing m a x y rest value first width left) where
     -- while terms are to be written, the power of y has one
     pub standing_left : 0 < length rest → 0 < left
@@ -111,9 +100,6 @@ pub record Written (m : FieldMeaning) (a d x y : ℕ) (out : List ℕ) (i value 
   pub standing : Standing m a x y (drop i (monomials m a d x y)) value first width left
 
 module _ (m : FieldMeaning) (laws : FieldLaws m) (a d x y : ℕ) (hx : x < m.size) (hy : y < m.size) (p : 1 ≤ a) (q : 1 ≤ d) where
-  pub written_none : (out : List ℕ) → Written m a d x y out 0 1 1 d d
-  written_none out = record { front = refl; standing = standing_first m laws a x y hx hy d p q }
-
   module _ (out : List ℕ) (room : length out ≤ term_count a d) (i value first width left : ℕ) (w : Written m a d x y out i value first width left)
       (within : i < length out) where
     abbrev all : List ℕ
@@ -159,9 +145,3 @@ module _ (m : FieldMeaning) (laws : FieldLaws m) (a d x y : ℕ) (hx : x < m.siz
               (subst (λ (r : List ℕ). Standing m a x y r (m.product y first) (m.product y first) (width - a) (width - a)) next_drop
               (standing_next m laws a x y hx hy (drop i all) value first width left w.standing ahead_some last));
         }
-
-pub written_all : (m : FieldMeaning) (a d x y : ℕ) (out : List ℕ) (n i value first width left : ℕ) → Written m a d x y out i value first width left
-    → length out ≡ n → n ≤ i → i ≤ n → out ≡ take n (monomials m a d x y)
-written_all m a d x y out n i value first width left w e h k =
-    let same : i ≡ n = omega arith in
-    sym (take_all i out (omega arith)) ∙ w.front ∙ ap (λ (j : ℕ). take j (monomials m a d x y)) same

@@ -20,13 +20,6 @@ place_row w a s b r hs hr e = sym (div-mul-add a w s hs) ∙ ap (λ (n : ℕ). n
 pub place_column : (w a s b r : ℕ) → s < w → r < w → a * w + s ≡ b * w + r → s ≡ r
 place_column w a s b r hs hr e = sym (mod-mul-add a w s hs) ∙ ap (λ (n : ℕ). n % w) e ∙ mod-mul-add b w r hr
 
--- what stands among the numbers of vector t is one of them
-pub place_within : (w a s t : ℕ) → s < w → t * w ≤ a * w + s → a * w + s < t * w + w → a ≡ t
-place_within w a s t hs l h =
-    let r : ℕ = a * w + s - t * w in
-    let hr : r < w = omega arith in
-    place_row w a s t r hs hr (omega arith)
-
 -- number s of vector t, whatever the length
 pub vector-entry : (w : ℕ) (vs : List ℕ) (t s : ℕ) → s < w → get_or (vector w vs t) s 0 ≡ entry w vs t s
 vector-entry w vs t s hs = get_or-take w (drop (t * w) vs) s 0 hs ∙ get_or-drop (t * w) vs s 0
@@ -155,11 +148,6 @@ module _ (w : ℕ) (vs : List ℕ) (sized : length vs ≡ w * w) (s : Enumerate 
   ahead_length : length (chunks_rest (enumerate_source s)) ≡ w * w - enumerate_count s * w
   ahead_length =
       ap length ahead.behind ∙ length-drop (enumerate_count s * w) vs ∙ ap (λ (n : ℕ). n - enumerate_count s * w) sized
-
-  pub ahead_none : 0 < w → length (chunks_rest (enumerate_source s)) ≡ 0 → enumerate_count s ≡ w
-  ahead_none wide none =
-      ⊎_elim (λ (l : enumerate_count s < w). absurd (omega (arith, ahead_length, vector-within w vs sized (enumerate_count s) l)))
-      (λ (l : w ≤ enumerate_count s). let h = ahead.within in omega arith) (cases_lt (enumerate_count s) w)
 
   pub ahead_turn : (t : ℕ) (v : Bor (List ℕ)) (s' : Enumerate (Chunks ℕ)) → enumerate_steps chunks_steps s (Some (t, v)) s' → Turn w vs t v.now s'
   ahead_turn t v s' steps =

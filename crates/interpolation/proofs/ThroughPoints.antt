@@ -14,6 +14,10 @@ use Rattle.interpolation.specs.Through.{Through}
 use Rattle.interpolation.proofs.Places.{vector-entry, vector-length, vector-elements}
 use Rattle.interpolation.proofs.TermValues.{monomials-elements, dot-monomials}
 
+-- the staircase before the first point
+pub through_none : (m : FieldMeaning) (a d w : ℕ) (vs : List ℕ) → Staircase m w vs → alive_count w vs w ≡ w → Through m a d w [] vs
+through_none m a d w vs stair count = record { staircase = stair; vanish = λ t ht alive. tt; left = omega arith }
+
 module _ (m : FieldMeaning) (laws : FieldLaws m) (a d w : ℕ) (weight : 1 ≤ a) (degree : 1 ≤ d) (room : w ≤ term_count a d) where
   -- ---- the equation of a point
 

@@ -1,5 +1,5 @@
 -- How a vector is made to solve an equation by another that does not solve it.
-use Rattle.std.specs.Prelude.{ℕ, cond, List, ◌==◌, slice_index}
+use Rattle.std.specs.Prelude.{ℕ, if◌then◌else◌, List, ◌==◌, slice_index}
 use Rattle.field.specs.Meaning.{FieldMeaning}
 use Rattle.interpolation.specs.Staircase.{dot, plus}
 
@@ -9,4 +9,4 @@ factor m e q v = m.negative (m.product (dot m e v) (m.inverse (dot m e q)))
 
 -- vector t afterwards: v as it was if it is not alive
 abbrev pub cleared : FieldMeaning → List ℕ → List ℕ → ℕ → List ℕ → List ℕ
-cleared m e q t v = cond (slice_index v t == 0) v (plus m v (factor m e q v) q)
+cleared m e q t v = if slice_index v t == 0 then v else plus m v (factor m e q v) q

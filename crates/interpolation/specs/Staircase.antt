@@ -1,5 +1,5 @@
 -- Vectors over a field of numbers, and a staircase of them that solves linear equations.
-use Rattle.std.specs.Prelude.{◌≡◌, ℕ, zero, suc, ◌+◌, ◌*◌, ◌<◌, cond, List, [], ◌∷◌, length, take, drop, ◌==◌, slice_index}
+use Rattle.std.specs.Prelude.{◌≡◌, ℕ, zero, suc, ◌+◌, ◌*◌, ◌<◌, if◌then◌else◌, List, [], ◌∷◌, length, take, drop, ◌==◌, slice_index}
 use Rattle.field.specs.Meaning.{FieldMeaning}
 use Rattle.bivariate.specs.Bivariate.{Elements}
 
@@ -30,7 +30,7 @@ Alive w vs t = ¬ (entry w vs t t ≡ 0)
 -- how many of the first k vectors are alive
 abbrev pub alive_count : ℕ → List ℕ → ℕ → ℕ
 alive_count w vs zero = 0
-alive_count w vs (suc k) = cond (entry w vs k k == 0) 0 1 + alive_count w vs k
+alive_count w vs (suc k) = (if entry w vs k k == 0 then 0 else 1) + alive_count w vs k
 
 -- w vectors of w elements; one that is alive has 1 at its own place and 0 after it
 pub record Staircase (m : FieldMeaning) (w : ℕ) (vs : List ℕ) : Type 0 where

@@ -1,4 +1,5 @@
-// Operations on the elements of a field, which have an answer there.
+// Operations on the elements of a field, which have an answer there. That a number is one is required of it and no type of its
+// own, for the numbers stand in slices of bytes, of which the fact is known as a whole.
 ghost use Rattle.std.specs.Prelude.{◌≡◌, ◌<◌};
 
 use bivariate::multiply_add;

@@ -25,6 +25,7 @@ pub enum Fault {
     AllZero,
 }
 
+// written out, for the derive of `thiserror` promises nothing of the text
 impl fmt::Display for Fault {
     ghost output = { λ fault. Some (fault_sentence fault) };
 

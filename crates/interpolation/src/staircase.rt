@@ -1,4 +1,5 @@
-// A staircase of w vectors of w numbers, one behind the other.
+// A staircase of w vectors of w numbers, one behind the other. That they are so many is required of each call and in no struct:
+// the slice is written between the calls, and a ghost field beside a `&mut` is not covered by the check.
 ghost use Rattle.std.specs.Prelude.{◌≡◌, ℕ, ◌*◌, ◌<◌, length, IfSome, IfNone};
 ghost use Rattle.field.specs.Meaning.{FieldMeaning, FieldLaws};
 ghost use Rattle.interpolation.specs.Staircase.{vector, Alive, alive_count, Staircase};

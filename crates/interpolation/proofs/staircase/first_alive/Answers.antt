@@ -1,7 +1,7 @@
-use Rattle.std.proofs.Common.{◌∙◌, sym, ap, ap₂, rules, arith}
-use Rattle.interpolation.specs.Staircase.{entry, alive_count}
+use Rattle.std.proofs.Common.{◌∙◌, sym, ap₂, rules, arith}
+use Rattle.interpolation.specs.Staircase.{entry}
 use Rattle.interpolation.proofs.AliveCount.{count_none}
-use Rattle.interpolation.proofs.Places.{ahead_turn, ahead_none}
+use Rattle.interpolation.proofs.Places.{ahead_turn}
 use Rattle.interpolation.proofs.staircase.first_alive.Goals as goal
 
 pub bounds-vector-t : goal.bounds-vector-t
@@ -20,8 +20,3 @@ loop-t-preserved c =
     let none = count_none c.args.w c.args.vectors.now _ _ c.in-Some.ensures.steps.2 c.loop-t.invariant.3
     (ap₂ (entry c.args.w c.args.vectors.now) (sym c.in-Some.ensures.steps.1) (sym c.in-Some.ensures.steps.1) ∙ sym turn.own ∙ c.if-vector-t-ne0.false) in
     search rules
-
-pub returns-clause-none : goal.returns-clause-none
-returns-clause-none c =
-    let all = ahead_none c.args.w c.args.vectors.now c.requires.sized _ c.loop-t.invariant.2 c.requires.wide c.in-None.ensures.steps.0.1.0 in
-    sym (ap (alive_count c.args.w c.args.vectors.now) all) ∙ c.loop-t.invariant.3

@@ -1,16 +1,10 @@
 use Rattle.std.proofs.Common.{◌≡◌, ℕ, ◌*◌, List, length, sym, ◌∙◌, subst, arith}
-use Rattle.interpolation.proofs.Places.{place_below}
 use Rattle.interpolation.proofs.UnitVectors.{Units, units_none, units_more, units_staircase, units_count}
 use Rattle.interpolation.proofs.staircase.start.Goals as goal
 
 pub loop-t-init : goal.loop-t-init
 loop-t-init c =
     subst (λ (vs : List ℕ). Units c.args.w 0 vs) (sym (c.fill.ensures.after (λ y e. e))) (units_none c.args.w (length c.args.vectors.now))
-
-pub bounds-vectors-t : goal.bounds-vectors-t
-bounds-vectors-t c =
-    place_below c.args.w c.loop-t.vectors (c.loop-t.auto.vectors ∙ c.fill.ensures.len ∙ c.requires) c.loop-t.t c.loop-t.t
-    c.loop-t-test.true c.loop-t-test.true
 
 pub loop-t-preserved : goal.loop-t-preserved
 loop-t-preserved c =

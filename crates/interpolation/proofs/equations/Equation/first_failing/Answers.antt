@@ -1,8 +1,7 @@
-use Rattle.std.proofs.Common.{◌≡◌, ℕ, ◌<◌, ◌∙◌, List, sym, ap, length, subst, below_more, rules, arith}
+use Rattle.std.proofs.Common.{◌≡◌, ℕ, ◌<◌, ◌∙◌, List, sym, ap, length, below_more, rules, arith}
 use Rattle.std.specs.Iterator.Adapters.{enumerate_count}
-use Rattle.bivariate.specs.Bivariate.{Elements}
 use Rattle.interpolation.specs.Staircase.{dot, vector, Alive}
-use Rattle.interpolation.proofs.Places.{ahead_turn, vector-elements}
+use Rattle.interpolation.proofs.Places.{ahead_turn}
 use Rattle.interpolation.proofs.equations.Equation.first_failing.Goals as goal
 use Rattle.interpolation.proofs.equations.Equation.first_failing.Goals.{else-vector-t-ne0-via-then-vector-t-ne0+else-value-ne0, else-vector-t-ne0-via-else-vector-t-ne0}
 
@@ -10,11 +9,6 @@ pub bounds-vector-t : goal.bounds-vector-t
 bounds-vector-t g c =
     let turn = ahead_turn _ c.args.vectors.now c.requires.sized _ c.loop-t.invariant.2 _ c.in-Some.vector c.next.new.self c.in-Some.ensures.steps in
     omega (arith, turn.within, turn.long)
-
-pub value-requires : goal.value-requires
-value-requires g c =
-    let turn = ahead_turn _ c.args.vectors.now c.requires.sized _ c.loop-t.invariant.2 _ c.in-Some.vector c.next.new.self c.in-Some.ensures.steps in
-    subst (Elements (g.F.Field.meaning c.args.self.now.field.now)) (sym turn.is) (vector-elements _ c.args.vectors.now c.requires.sized (g.F.Field.meaning c.args.self.now.field.now) _ c.requires.elements)
 
 pub returns-then-value-ne0-clause-some : goal.returns-then-value-ne0-clause-some
 returns-then-value-ne0-clause-some g c =

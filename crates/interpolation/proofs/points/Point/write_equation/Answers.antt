@@ -1,13 +1,8 @@
 use Rattle.std.proofs.Common.{◌≤◌, length, arith}
 use Rattle.bivariate.specs.Terms.{term_count}
-use Rattle.interpolation.proofs.EquationSteps.{written_none, written_left, written_within, written_next, written_all}
+use Rattle.interpolation.proofs.EquationSteps.{written_left, written_within, written_next}
 use Rattle.interpolation.proofs.points.Point.write_equation.Goals as goal
 use Rattle.interpolation.proofs.points.Point.write_equation.Goals.{then-left-eq0, else-left-eq0}
-
-pub loop-place-init : goal.loop-place-init
-loop-place-init g c =
-    written_none _ (g.met.F.Field.lawful c.args.self.now.field.now) _ _ _ _ c.args.self.now.place c.args.self.now.value c.args.terms.weight c.args.terms.degree
-    c.args.out.now
 
 pub overflow_sub-left : goal.overflow_sub-left
 overflow_sub-left g c =
@@ -29,8 +24,3 @@ loop-place-preserved g c =
           _ room _ _ _ _ _ c.loop-place.invariant (omega arith) _ _ _ _ _ w.if-left-eq0.false
           w.product-value.ensures w.value-is w.first-is w.width-is w.left-is
     ]
-
-pub returns : goal.returns
-returns g c =
-    written_all _ c.args.terms.a c.args.terms.d c.args.self.now.x c.args.self.now.y c.loop-place.out _ c.loop-place.place-index _ _ _ _ c.loop-place.invariant
-    c.loop-place.auto.out c.loop-place-test.false c.loop-place.auto.place-index-end
