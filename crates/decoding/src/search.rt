@@ -6,7 +6,7 @@ ghost use Rattle.bivariate.specs.Terms.{term_count, most_y, polynomial, degree_b
 ghost use Rattle.decoding.specs.Decoding.{pieces, found_bytes, memory_bytes, RootsFound};
 
 use crate::stage::{Shape, Stage};
-use bivariate::{Terms, degree_bound};
+use bivariate::Terms;
 use field::Field;
 
 // The terms that the polynomial may have, so few that the bytes for the search can be counted.
@@ -26,9 +26,8 @@ impl Search {
         ensures weight { result.terms.a ≡ a }
         ensures bound { result.terms.d ≡ degree_bound a n }
     {
-        let d = degree_bound(a, n as u32).unwrap();
         Search {
-            terms: Terms { a, d },
+            terms: Terms::exceeding(a, n as u32).unwrap(),
         }
     }
 
@@ -40,18 +39,11 @@ impl Search {
         (0..d).map(|j| d.saturating_sub(a * j)).sum()
     }
 
-    // The greatest power of y, and how many roots there can be.
-    fn most_y(self) -> usize
-        ensures { result ≡ most_y self.terms.a self.terms.d }
-    {
-        (self.terms.d - 1) / self.terms.a
-    }
-
-    // How many bytes the polynomials that are found can take.
+    // How many bytes the polynomials that are found can take: they are at most as many as the greatest power of y.
     pub(crate) fn found_bytes(self) -> usize
         ensures { result ≡ found_bytes self.terms.a self.terms.d }
     {
-        self.most_y() * (self.terms.a + 1)
+        self.terms.most_y() * (self.terms.a + 1)
     }
 
     // How many bytes of memory finding the roots wants.
@@ -59,7 +51,7 @@ impl Search {
         ensures { result ≡ memory_bytes self.terms.a self.terms.d }
     {
         let k = self.terms.a + 1;
-        k + k * (self.terms.d * (self.most_y() + 1))
+        k + k * (self.terms.d * (self.terms.most_y() + 1))
     }
 
     // Lays the polynomial with these coefficients out in a grid.
@@ -94,7 +86,7 @@ impl Search {
     {
         let k = self.terms.a + 1;
         let shape = Shape {
-            w: self.most_y() + 1,
+            w: self.terms.most_y() + 1,
             d: self.terms.d,
         };
         let (path, stages) = memory.split_at_mut(k);

@@ -1,10 +1,9 @@
 // A polynomial in x and y, laid out with w powers of y for each of d powers of x, and the steps from one to the next.
 ghost use Rattle.std.specs.Prelude.{◌≡◌, ℕ, suc, ◌+◌, ◌-◌, ◌*◌, ◌<◌, ◌≤◌, ◌↔◌, List, ◌∷◌, length};
-ghost use Rattle.bivariate.specs.Bivariate.{Elements, Root};
+ghost use Rattle.bivariate.specs.Bivariate.{Elements, Elements-prop, Root};
 ghost use Rattle.bivariate.specs.Grid.{cell, grid, Weighted, Nonzero};
 ghost use Rattle.bivariate.specs.Steps.{Divided};
 ghost use Rattle.decoding.specs.Stages.{Shifted, Spread, Indivisible};
-ghost use Rattle.std.proofs.Props.{props};
 
 use crate::shift::Shift;
 use field::Field;
@@ -27,7 +26,7 @@ pub(crate) struct Stage<'a, F: Field> {
     pub(crate) shape: Shape,
     pub(crate) cells: &'a [u8],
     ghost sized: { length cells.now ≡ shape.d * shape.w },
-    ghost elements: { Elements (F.Field.meaning field.now) cells.now } by { Prim.hlevel props },
+    ghost elements: { Elements (F.Field.meaning field.now) cells.now } by { Elements-prop (F.Field.meaning field.now) cells.now },
 }
 
 impl Shape {
