@@ -1,5 +1,5 @@
 -- What a code means, the laws that it owes, and what its question for a symbol answers.
-use Rattle.std.specs.Prelude.{◌≡◌, ℕ, ◌^◌, ◌<◌, ◌≤◌, Bool, if◌then◌else◌, ◌&&◌, ◌==◌, Some, None, Option, nat_lt}
+use Rattle.std.specs.Prelude.{◌≡◌, ℕ, ◌^◌, ◌<◌, ◌≤◌, if◌then◌else◌, ◌&&◌, Some, None, Option, nat_lt}
 use Rattle.field.specs.Polynomial.{agreements}
 
 -- The users are the numbers below `users`, the positions those below `length`, and the symbols those below `alphabet`.
@@ -25,10 +25,6 @@ pub record CodeLaws (m : CodeMeaning) : Type 0 where
 -- a symbol is absent exactly if the user or the position is out of range
 abbrev pub symbol_at : CodeMeaning → ℕ → ℕ → Option ℕ
 symbol_at m u i = if nat_lt u m.users && nat_lt i m.length then Some (m.symbol u i) else None
-
--- whether two users have the same symbol at a position
-abbrev pub agree_at : CodeMeaning → ℕ → ℕ → ℕ → Bool
-agree_at m u v i = nat_lt i m.length && (m.symbol u i == m.symbol v i)
 
 -- in how many positions two tables agree; absent exactly if one of the users is out of range
 abbrev pub shared_positions : CodeMeaning → ℕ → ℕ → Option ℕ

@@ -7,6 +7,9 @@ ghost use Rattle.code.specs.ConcatenationLaws.{concatenated_laws};
 use crate::Code;
 use refusal::Refusal;
 
+// How many positions a table may have.
+const LONGEST: usize = 8192;
+
 // There is an inner user for each outer symbol, and a table is not too long.
 #[derive(Drop)]
 pub struct Concatenation<O: Code, I: Code> {
@@ -25,7 +28,7 @@ impl<O: Code + Drop, I: Code + Drop> Concatenation<O, I> {
             return Err(Refusal::InnerUsersTooFew(users));
         }
         let length = outer.length() * inner.length();
-        if 8192 < length {
+        if length > LONGEST {
             return Err(Refusal::LengthTooLong(length));
         }
         Ok(Concatenation { outer, inner })

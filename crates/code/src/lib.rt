@@ -2,7 +2,7 @@
 #![tactic(auto)]
 
 ghost use Rattle.std.specs.Prelude.{◌≡◌, ◌<◌, ◌≤◌, IfSome, ◌==◌, ◌≢◌};
-ghost use Rattle.code.specs.Meaning.{CodeMeaning, CodeLaws, symbol_at, agree_at, shared_positions};
+ghost use Rattle.code.specs.Meaning.{CodeMeaning, CodeLaws, symbol_at, shared_positions};
 
 mod concatenation;
 mod lone;
@@ -37,17 +37,6 @@ pub trait Code {
     ghost lawful: { (c : Self) → CodeLaws (meaning c) };
 }
 
-// Whether two users have the same key number at a position.
-fn agree_at<C: Code>(code: &C, u: u64, v: u64, position: usize) -> bool
-    requires users { (u < (C.Code.meaning code.now).users) × (v < (C.Code.meaning code.now).users) }
-    ensures { result ≡ agree_at (C.Code.meaning code.now) u v position }
-{
-    match (code.symbol(u, position), code.symbol(v, position)) {
-        (Some(x), Some(y)) => x == y,
-        _ => false,
-    }
-}
-
 // In how many positions the tables of two users agree, which is at most the overlap unless they are one user;
 // None exactly if one of the users is out of range.
 pub fn shared_positions<C: Code>(code: &C, u: u64, v: u64) -> Option<usize>
@@ -58,7 +47,7 @@ pub fn shared_positions<C: Code>(code: &C, u: u64, v: u64) -> Option<usize>
         return None;
     }
     let count = (0..code.length())
-        .filter(|&position| agree_at(code, u, v, position))
+        .filter(|&position| code.symbol(u, position) == code.symbol(v, position))
         .count();
     Some(count)
 }

@@ -9,7 +9,7 @@ use crate::Code;
 pub fn lone_symbol(user: u64, position: usize) -> Option<u8>
     ensures { result ≡ symbol_at lone user position }
 {
-    (user < 1 && position < 1).then_some(0)
+    (user == 0 && position == 0).then_some(0)
 }
 
 // The least code as a value.

@@ -1,6 +1,6 @@
 -- What answers to a field's questions say.
 -- Assumes nothing.
-use Rattle.std.proofs.Common.{◌≡◌, ℕ, ◌<◌, Some, None, ◌∙◌, arith}
+use Rattle.std.proofs.Common.{◌≡◌, ℕ, ◌<◌, Some, ◌∙◌}
 use Rattle.std.proofs.lemmas.Bool.{lt-ltb, and_from, cond-true}
 use Rattle.field.specs.Meaning.{FieldMeaning, pair_answer}
 
@@ -11,9 +11,3 @@ module _ (m : FieldMeaning) (op : ℕ → ℕ → ℕ) (a b : ℕ) (ha : a < m.s
 
   pub pair_some : (s : ℕ) → Some s ≡ pair_answer m op a b → s ≡ op a b
   pair_some s e = let k : Some s ≡ Some (op a b) = e ∙ pair_answered in cc
-
-  pub pair_never_none : None ≡ pair_answer m op a b → ⊥
-  pair_never_none e =
-      let k : None ≡ Some (op a b) = e ∙ pair_answered in
-      let z : ◌≡◌ {A = ℕ} 0 1 = cc in
-      omega arith

@@ -1,11 +1,12 @@
 -- What the code works out of numbers, digits and values, one step at a time.
 -- Assumes nothing.
-use Rattle.std.proofs.Common.{◌≡◌, ℕ, suc, ◌-◌, ◌*◌, ◌/◌, ◌%◌, ◌^◌, ◌<◌, ◌≤◌, get_or, Some, None, Option, sym, ap, ◌∙◌, subst, ap₂, mod-lt, mod-eq_of_lt, mul_comm, pow-suc, mul-div_cancel, arith}
+use Rattle.std.proofs.Common.{◌≡◌, ℕ, suc, ◌-◌, ◌*◌, ◌/◌, ◌%◌, ◌^◌, ◌<◌, ◌≤◌, get_or, Some, Option, refl, sym, ap, ◌∙◌, subst, ap₂, mod-lt, mod-eq_of_lt, mul_comm, pow-suc, mul-div_cancel, arith}
+use Rattle.std.specs.Prelude.{IsSome}
 use native.Mathlib.Nat.{one-le-pow}
 use Rattle.std.proofs.lemmas.Nat.{div_below}
 use Rattle.field.specs.Meaning.{FieldMeaning, FieldLaws, pair_answer}
 use Rattle.field.specs.Polynomial.{value_at}
-use Rattle.field.proofs.Questions.{pair_answered, pair_some, pair_never_none}
+use Rattle.field.proofs.Questions.{pair_answered, pair_some}
 use Rattle.field.proofs.Numbers.{value_below}
 use Rattle.reed_solomon.specs.Polynomials.{digits}
 use Rattle.reed_solomon.specs.Digits.{digits_below, top_digit}
@@ -13,32 +14,29 @@ use Rattle.reed_solomon.specs.Digits.{digits_below, top_digit}
 -- ---- a value, from the value of the higher coefficients
 
 module _ (f : FieldMeaning) (laws : FieldLaws f) (k number rest x value : ℕ) (more : ¬ (k ≡ 0)) (element : x < f.size)
-    (split : rest ≡ number / f.size) (higher : Some value ≡ Some (value_at f (digits f.size (k - 1) rest) x)) where
-  value_is : value ≡ value_at f (digits f.size (k - 1) rest) x
-  value_is = cc
-
+    (split : rest ≡ number / f.size) (higher : value ≡ value_at f (digits f.size (k - 1) rest) x) where
   positive : 0 < f.size
   positive = omega (arith, laws.size_low)
 
   value-element : value < f.size
   value-element =
-      subst (λ (v : ℕ). v < f.size) (sym value_is)
+      subst (λ (v : ℕ). v < f.size) (sym higher)
       (value_below f laws (digits f.size (k - 1) rest) (digits_below f.size positive (k - 1) rest) x element)
 
   -- both are elements, so that their product is there
-  pub product_there : None ≡ pair_answer f f.product x value → ⊥
-  product_there = pair_never_none f f.product x value element value-element
+  pub product_there : (p : Option ℕ) → p ≡ pair_answer f f.product x value → IsSome p
+  product_there p e = subst IsSome (sym (e ∙ pair_answered f f.product x value element value-element)) refl
 
-  pub value_step : (digit product : ℕ) (r : Option ℕ) → digit ≡ number % f.size → Some product ≡ pair_answer f f.product x value
-      → r ≡ pair_answer f f.sum digit product → r ≡ Some (value_at f (digits f.size k number) x)
-  value_step digit product r low e h =
+  pub value_step : (digit product result : ℕ) (p s : Option ℕ) → digit ≡ number % f.size → p ≡ pair_answer f f.product x value → p ≡ Some product
+      → s ≡ pair_answer f f.sum digit product → s ≡ Some result → result ≡ value_at f (digits f.size k number) x
+  value_step digit product result p s low e there h is-sum =
       let digit-element : digit < f.size = omega (arith, mod-lt number positive) in
-      let is : product ≡ f.product x value = pair_some f f.product x value element value-element product e in
+      let is : product ≡ f.product x value = pair_some f f.product x value element value-element product (sym there ∙ e) in
       let product-element : product < f.size = subst (λ (p : ℕ). p < f.size) (sym is) (laws.product_closed x value element value-element) in
       let whole : suc (k - 1) ≡ k = omega arith in
-      h ∙ pair_answered f f.sum digit product digit-element product-element
-      ∙ ap₂ (λ (d p : ℕ). Some (f.sum d p)) low (is ∙ ap (f.product x) (value_is ∙ ap (λ (n : ℕ). value_at f (digits f.size (k - 1) n) x) split))
-      ∙ ap (λ (n : ℕ). Some (value_at f (digits f.size n number) x)) whole
+      pair_some f f.sum digit product digit-element product-element result (sym is-sum ∙ h)
+      ∙ ap₂ f.sum low (is ∙ ap (f.product x) (higher ∙ ap (λ (n : ℕ). value_at f (digits f.size (k - 1) n) x) split))
+      ∙ ap (λ (n : ℕ). value_at f (digits f.size n number) x) whole
 
 -- ---- the top coefficient
 

@@ -60,6 +60,6 @@ impl<F: Field> Code for DoublyExtended<F> {
         if position == size {
             return Some(p.top(user));
         }
-        p.value(user, position as u8)
+        Some(p.value(user, position as u8))
     }
 }

@@ -23,7 +23,7 @@ impl<F: Field + Drop> Plain<F> {
     pub fn new(field: F, length: usize, coefficients: usize) -> Result<Plain<F>, Refusal>
         ensures { Answers result (plain_rows (F.Field.meaning field).size length coefficients) (λ c. ⟦<Plain<F> as Code>⟧.meaning c ≡ plain (F.Field.meaning field) length coefficients) }
     {
-        if length < 2 || length > field.size() as usize {
+        if !(2..=field.size() as usize).contains(&length) {
             return Err(Refusal::LengthOutOfRange(length));
         }
         let polynomials = Polynomials::new(field, coefficients, length)?;
@@ -64,6 +64,6 @@ impl<F: Field> Code for Plain<F> {
         if user >= p.count || position >= self.length {
             return None;
         }
-        p.value(user, position as u8)
+        Some(p.value(user, position as u8))
     }
 }

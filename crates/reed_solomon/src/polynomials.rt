@@ -19,12 +19,15 @@ pub struct Polynomials<F: Field> {
     ghost count_high: { count ≤ 2 ^ 32 },
 }
 
+// 2^32
+const MOST_USERS: u64 = 4294967296;
+
 // base^exponent, or None where that is above 2^32.
 fn power_within(base: u64, exponent: u32) -> Option<u64>
     ensures { result ≡ (if nat_le (base ^ exponent) (2 ^ 32) then Some (base ^ exponent) else None) }
 {
     base.checked_pow(exponent)
-        .filter(|&power| power <= 4294967296)
+        .filter(|&power| power <= MOST_USERS)
 }
 
 // The lowest digit of a number, and the number that the other digits make.
@@ -36,18 +39,19 @@ fn lowest_digit(number: u64, size: u64) -> (u8, u64)
     ((number % size) as u8, number / size)
 }
 
-// The value at x of the polynomial whose coefficients are the k lowest digits of `number`: k products and k sums.
-fn value_at<F: Field>(field: &F, k: usize, number: u64, x: u8) -> Option<u8>
+// The value at x of the polynomial whose coefficients are the k lowest digits of `number`: k products and k sums. By recursion,
+// at most 8 deep, since the lowest digit is added last.
+fn value_at<F: Field>(field: &F, k: usize, number: u64, x: u8) -> u8
     requires { x < (F.Field.meaning field.now).size }
-    ensures { result ≡ Some (value_at (F.Field.meaning field.now) (digits (F.Field.meaning field.now).size k number) x) }
+    ensures { result ≡ value_at (F.Field.meaning field.now) (digits (F.Field.meaning field.now).size k number) x }
 {
     if k == 0 {
-        return Some(0);
+        return 0;
     }
     let (digit, rest) = lowest_digit(number, field.size() as u64);
-    let value = value_at(field, k - 1, rest, x)?;
-    let product = field.product(x, value)?;
-    field.sum(digit, product)
+    let value = value_at(field, k - 1, rest, x);
+    let product = field.product(x, value).unwrap();
+    field.sum(digit, product).unwrap()
 }
 
 impl<F: Field + Drop> Polynomials<F> {
@@ -55,7 +59,7 @@ impl<F: Field + Drop> Polynomials<F> {
     pub(crate) fn new(field: F, coefficients: usize, most: usize) -> Result<Polynomials<F>, Refusal>
         ensures { Answers result (coefficient_rows (F.Field.meaning field).size most coefficients) (λ p. (p.field ≡ field) × (p.coefficients ≡ coefficients)) }
     {
-        if coefficients < 2 || coefficients > 8 || coefficients > most {
+        if !(2..=8).contains(&coefficients) || coefficients > most {
             return Err(Refusal::CoefficientsOutOfRange(coefficients));
         }
         let count = power_within(field.size() as u64, coefficients as u32).ok_or(
@@ -92,9 +96,9 @@ impl<F: Field> Polynomials<F> {
     }
 
     // The value of a user's polynomial at an element.
-    pub(crate) fn value(&self, user: u64, x: u8) -> Option<u8>
+    pub(crate) fn value(&self, user: u64, x: u8) -> u8
         requires { x < (F.Field.meaning self.now.field).size }
-        ensures { result ≡ Some (value_at (F.Field.meaning self.now.field) (digits (F.Field.meaning self.now.field).size self.now.coefficients user) x) }
+        ensures { result ≡ value_at (F.Field.meaning self.now.field) (digits (F.Field.meaning self.now.field).size self.now.coefficients user) x }
     {
         value_at(&self.field, self.coefficients, user, x)
     }

@@ -1,4 +1,4 @@
-// Refusals: one type for every call that can refuse.
+// Refusals of the office, each with its number, place, layer and sentence.
 #![tactic(auto)]
 
 ghost use Rattle.std.specs.Prelude.{◌≡◌, Some};
