@@ -1,8 +1,8 @@
 // Finding all roots of a polynomial in x and y.
-ghost use Rattle.std.specs.Prelude.{◌≡◌, suc, ◌*◌, true, length, drop, is_err};
-ghost use Rattle.refusal.specs.Tables.{Answers};
+ghost use Rattle.std.specs.Prelude.{◌≡◌, suc, ◌*◌, true, false, ◌&&◌, length, drop, is_err, MatchOption};
+ghost use Rattle.refusal.specs.Tables.{Answers, within};
 ghost use Rattle.bivariate.specs.Terms.{most_y, polynomial};
-ghost use Rattle.decoding.specs.Decoding.{pieces, only_zeros, RootsFound, root_rows};
+ghost use Rattle.decoding.specs.Decoding.{pieces, only_zeros, found_bytes, memory_bytes, RootsFound, root_rows};
 
 use crate::search::Search;
 use bivariate::{Terms, first_stranger};
@@ -16,7 +16,30 @@ fn only_zeros(numbers: &[u8]) -> bool
     numbers.iter().all(|number| *number == 0)
 }
 
-// Refuses what has no roots to find.
+// How many bytes a search wants: those for what is found, and those of its memory.
+#[derive(Clone, Copy)]
+pub struct Room {
+    pub found: usize,
+    pub memory: usize,
+}
+
+// How many bytes `find_roots` wants for these a and d. None where a is not 1 to 255 or d is not 1 to 257.
+pub fn search_room(a: usize, d: usize) -> Option<Room>
+    ensures { MatchOption result ((within 1 a 255 && within 1 d 257) ≡ false) (λ r. ((within 1 a 255 && within 1 d 257) ≡ true) × (r.found ≡ found_bytes a d) × (r.memory ≡ memory_bytes a d)) }
+{
+    if !(1..=255).contains(&a) || !(1..=257).contains(&d) {
+        return None;
+    }
+    let search = Search {
+        terms: Terms { a, d },
+    };
+    Some(Room {
+        found: search.found_bytes(),
+        memory: search.memory_bytes(),
+    })
+}
+
+// Refuses what cannot be searched.
 fn check<F: Field>(
     field: &F,
     a: usize,
