@@ -1,78 +1,66 @@
-use Rattle.std.proofs.Common.{◌≡◌, ◌+◌, [], suc, ◌∙◌, subst, arith}
+use Rattle.std.proofs.Common.{◌+◌, [], suc, ◌∙◌, subst, arith}
 use Rattle.bivariate.specs.Terms.{most_y, polynomial}
 use Rattle.decoding.specs.Roots.{Told}
-use Rattle.decoding.proofs.FirstStage.{stage_nonzero, few, next_elements, next_weighted, first_told}
+use Rattle.decoding.proofs.FirstStage.{LaidOut, stage_nonzero, few, next_elements, next_weighted, first_told}
 use Rattle.decoding.proofs.Found.{always_some, roots_found}
 use Rattle.decoding.proofs.search.Search.run.Goals as goal
+use Rattle.decoding.proofs.search.Search.run.Goals.{After-lay_out, After-explore}
+use Rattle.decoding.proofs.search.Search.run.Given as given
+
+laid_out : (g : given.Over) (c : After-lay_out g)
+    → LaidOut (g.F.Field.meaning c.args.field.now) c.args.self.terms.a c.args.self.terms.d c.args.coefficients.now (c.most_y.result + 1) c.lay_out.new.cells
+laid_out g c =
+    let t = c.args.self.terms in
+    record {
+      weight = t.weight;
+      degree = t.degree;
+      terms = c.requires.terms;
+      elements = c.requires.elements;
+      nonzero = c.requires.nonzero;
+      wide = omega (arith, c.most_y.ensures);
+      sized = c.lay_out.ensures.same_length ∙ c.split_at_mut-cells.ensures.front_len;
+      cells = c.lay_out.ensures.cells;
+    }
+
+-- what exploring told, of the polynomial that was searched
+told : (g : given.Over) (c : After-explore g)
+    → Told (g.F.Field.meaning c.args.field.now) (polynomial c.args.self.terms.a c.args.self.terms.d c.args.coefficients.now)
+    (suc c.args.self.terms.a) (suc c.args.self.terms.a) [] c.args.found.now c.explore.new.found c.explore.result
+told g c =
+    first_told (g.F.Field.meaning c.args.field.now) (g.met.F.Field.lawful c.args.field.now) _ _ _ _ _ (laid_out g (goal.at.After-explore g c).After-lay_out)
+    c.divide.new.cells c.divide.ensures.same_length c.divide.ensures.divided
+    c.split_at_mut-path.result.0.now c.args.found.now c.explore.new.found c.explore.result c.split_at_mut-path.ensures.front_len c.explore.ensures.told
 
 pub divide-requires-clause-nonzero : goal.divide-requires-clause-nonzero
 divide-requires-clause-nonzero g c =
-    let m = g.F.Field.meaning c.args.field.now in
-    let laws = g.met.F.Field.lawful c.args.field.now in
-    let t = c.args.self.terms in
-    let cs = c.args.coefficients.now in
-    let w = c.most_y.result + 1 in
-    let stage = c.lay_out.new.cells in
-    let wide : w ≡ most_y t.a t.d + 1 = omega (arith, c.most_y.ensures) in
-    let sized = c.lay_out.ensures.same_length ∙ c.split_at_mut-cells.ensures.front_len in
-    stage_nonzero m laws t.a t.d cs t.weight t.degree c.requires.terms c.requires.elements c.requires.nonzero w stage wide sized c.lay_out.ensures.cells
+    stage_nonzero (g.F.Field.meaning c.args.field.now) (g.met.F.Field.lawful c.args.field.now) _ _ _ _ _ (laid_out g (goal.at.divide-requires-clause-nonzero g c).After-lay_out)
 
 pub invariant_of-stage : goal.invariant_of-stage
 invariant_of-stage g c =
-    let m = g.F.Field.meaning c.args.field.now in
-    let laws = g.met.F.Field.lawful c.args.field.now in
-    let t = c.args.self.terms in
-    let cs = c.args.coefficients.now in
-    let w = c.most_y.result + 1 in
-    let stage = c.lay_out.new.cells in
-    let wide : w ≡ most_y t.a t.d + 1 = omega (arith, c.most_y.ensures) in
-    let sized = c.lay_out.ensures.same_length ∙ c.split_at_mut-cells.ensures.front_len in
+    let laid = laid_out g (goal.at.invariant_of-stage g c).After-lay_out in
     record {
-      sized = c.divide.ensures.same_length ∙ sized;
-      elements = next_elements m laws t.a t.d cs t.weight t.degree c.requires.terms c.requires.elements c.requires.nonzero w stage wide sized c.lay_out.ensures.cells
-          c.divide.ensures.divided.0 c.divide.new.cells c.divide.ensures.divided.1 c.divide.ensures.same_length c.divide.ensures.divided.2;
+      sized = c.divide.ensures.same_length ∙ laid.sized;
+      elements = next_elements (g.F.Field.meaning c.args.field.now) (g.met.F.Field.lawful c.args.field.now) _ _ _ _ _ laid
+          c.divide.new.cells c.divide.ensures.same_length c.divide.ensures.divided;
     }
 
 pub explore-requires-clause-weighted : goal.explore-requires-clause-weighted
 explore-requires-clause-weighted g c =
-    let m = g.F.Field.meaning c.args.field.now in
-    let laws = g.met.F.Field.lawful c.args.field.now in
-    let t = c.args.self.terms in
-    let cs = c.args.coefficients.now in
-    let w = c.most_y.result + 1 in
-    let stage = c.lay_out.new.cells in
-    let wide : w ≡ most_y t.a t.d + 1 = omega (arith, c.most_y.ensures) in
-    let sized = c.lay_out.ensures.same_length ∙ c.split_at_mut-cells.ensures.front_len in
-    next_weighted m laws t.a t.d cs t.weight t.degree c.requires.terms c.requires.elements c.requires.nonzero w stage wide sized c.lay_out.ensures.cells
-    c.divide.ensures.divided.0 c.divide.new.cells c.divide.ensures.divided.1 c.divide.ensures.same_length c.divide.ensures.divided.2
+    next_weighted (g.F.Field.meaning c.args.field.now) (g.met.F.Field.lawful c.args.field.now) _ _ _ _ _ (laid_out g (goal.at.explore-requires-clause-weighted g c).After-lay_out)
+    c.divide.new.cells c.divide.ensures.same_length c.divide.ensures.divided
 
 pub unwrap-requires : goal.unwrap-requires
 unwrap-requires g c =
+    let at = goal.at.unwrap-requires g c in
     let m = g.F.Field.meaning c.args.field.now in
     let laws = g.met.F.Field.lawful c.args.field.now in
-    let t = c.args.self.terms in
-    let cs = c.args.coefficients.now in
-    let w = c.most_y.result + 1 in
-    let stage = c.lay_out.new.cells in
-    let wide : w ≡ most_y t.a t.d + 1 = omega (arith, c.most_y.ensures) in
-    let sized = c.lay_out.ensures.same_length ∙ c.split_at_mut-cells.ensures.front_len in
-    always_some m laws t.a t.d cs c.args.found.now c.requires.room (few m laws t.a t.d cs t.weight t.degree c.requires.terms c.requires.elements c.requires.nonzero w stage wide sized c.lay_out.ensures.cells) _ _
-    (first_told m laws t.a t.d cs t.weight t.degree c.requires.terms c.requires.elements c.requires.nonzero w stage wide sized c.lay_out.ensures.cells
-    c.divide.ensures.divided.0 c.divide.new.cells c.divide.ensures.divided.1 c.divide.ensures.same_length c.divide.ensures.divided.2
-    c.split_at_mut-path.result.0.now c.args.found.now c.explore.new.found c.explore.result c.split_at_mut-path.ensures.front_len c.explore.ensures.told)
+    always_some m laws _ _ _ c.args.found.now c.requires.room (few m laws _ _ _ _ _ (laid_out g at.After-lay_out)) _ _ (told g at.After-explore)
 
 pub returns-clause-roots : goal.returns-clause-roots
 returns-clause-roots g c =
+    let at = goal.at.returns-clause-roots g c in
     let m = g.F.Field.meaning c.args.field.now in
     let laws = g.met.F.Field.lawful c.args.field.now in
     let t = c.args.self.terms in
-    let cs = c.args.coefficients.now in
-    let w = c.most_y.result + 1 in
-    let stage = c.lay_out.new.cells in
-    let wide : w ≡ most_y t.a t.d + 1 = omega (arith, c.most_y.ensures) in
-    let sized = c.lay_out.ensures.same_length ∙ c.split_at_mut-cells.ensures.front_len in
-    roots_found m laws t.a t.d cs c.args.found.now c.requires.room (few m laws t.a t.d cs t.weight t.degree c.requires.terms c.requires.elements c.requires.nonzero w stage wide sized c.lay_out.ensures.cells) c.unwrap.result c.explore.new.found
-    (subst (Told m (polynomial t.a t.d cs) (suc t.a) (suc t.a) [] c.args.found.now c.explore.new.found) c.unwrap.ensures
-    (first_told m laws t.a t.d cs t.weight t.degree c.requires.terms c.requires.elements c.requires.nonzero w stage wide sized c.lay_out.ensures.cells
-    c.divide.ensures.divided.0 c.divide.new.cells c.divide.ensures.divided.1 c.divide.ensures.same_length c.divide.ensures.divided.2
-    c.split_at_mut-path.result.0.now c.args.found.now c.explore.new.found c.explore.result c.split_at_mut-path.ensures.front_len c.explore.ensures.told))
+    roots_found m laws _ _ _ c.args.found.now c.requires.room (few m laws _ _ _ _ _ (laid_out g at.After-lay_out)) c.unwrap.result c.explore.new.found
+    (subst (Told m (polynomial t.a t.d c.args.coefficients.now) (suc t.a) (suc t.a) [] c.args.found.now c.explore.new.found) c.unwrap.ensures (told g at.After-explore))
