@@ -357,51 +357,59 @@ module _ (m : FieldMeaning) (laws : FieldLaws m) (Q Q' : List (List ℕ)) (left 
     once = told.once;
   }
 
-  module _ (path₀ found₀ : List ℕ) (deep : 2 ≤ left) (fits : left ≤ length path₀)
-      (count : ℕ) (path found : List ℕ) (element : c < m.size) (state : Standing m Q left path₀ found₀ c count path found) where
-    abbrev chosen : List ℕ
-    chosen = set path (length path₀ - left) c
+-- the search tries c as one of the last `left` coefficients, and Q' is the polynomial for those after it
+pub record Tried (m : FieldMeaning) (Q Q' : List (List ℕ)) (left : ℕ) (path₀ found₀ : List ℕ) (c count : ℕ) (path found : List ℕ) : Type 0 where
+  pub roots : (f : List ℕ) → Elements m f → Root m Q (c ∷ f) ↔ Root m Q' f
+  pub deep : 2 ≤ left
+  pub fits : left ≤ length path₀
+  pub element : c < m.size
+  pub state : Standing m Q left path₀ found₀ c count path found
 
-    pub chosen-length : length chosen ≡ length path₀
-    chosen-length = length-set path (length path₀ - left) c ∙ state.path_length
+module _ (m : FieldMeaning) (laws : FieldLaws m) (Q Q' : List (List ℕ)) (left : ℕ) (path₀ found₀ : List ℕ) (c count : ℕ) (path found : List ℕ)
+    (tried : Tried m Q Q' left path₀ found₀ c count path found) where
+  abbrev chosen : List ℕ
+  chosen = set path (length path₀ - left) c
 
-    chosen_front : take (length chosen - (left - 1)) chosen ≡ take (length path₀ - left) path₀ ++ (c ∷ [])
-    chosen_front =
-        let e : length chosen - (left - 1) ≡ length path₀ - left + 1 = omega (arith, chosen-length) in
-        ap (λ (n : ℕ). take n chosen) e
-        ∙ path_more m Q left (omega arith) path₀ found₀ fits c count path found element state
+  pub chosen-length : length chosen ≡ length path₀
+  chosen-length = length-set path (length path₀ - left) c ∙ tried.state.path_length
 
-    -- the recursion may be called
-    pub chosen_fits : left - 1 ≤ length chosen
-    chosen_fits = omega (arith, chosen-length)
+  chosen_front : take (length chosen - (left - 1)) chosen ≡ take (length path₀ - left) path₀ ++ (c ∷ [])
+  chosen_front =
+      let e : length chosen - (left - 1) ≡ length path₀ - left + 1 = omega (arith, chosen-length, tried.deep, tried.fits) in
+      ap (λ (n : ℕ). take n chosen) e
+      ∙ path_more m Q left (omega (arith, tried.deep)) path₀ found₀ tried.fits c count path found tried.element tried.state
 
-    abbrev free_below : List ℕ
-    free_below = take (length found - count * length path₀) (drop (count * length path₀) found)
+  -- the recursion may be called
+  pub chosen_fits : left - 1 ≤ length chosen
+  chosen_fits = omega (arith, chosen-length, tried.deep, tried.fits)
 
-    module _ (path' : List ℕ) (same-path : length path' ≡ length chosen) (same_chosen : take (length chosen - (left - 1)) path' ≡ take (length chosen - (left - 1)) chosen) where
-      pub path_length_below : length path' ≡ length path₀
-      path_length_below = same-path ∙ chosen-length
+  abbrev free_below : List ℕ
+  free_below = take (length found - count * length path₀) (drop (count * length path₀) found)
 
-      pub path_below : take (length path₀ - left) path' ≡ take (length path₀ - left) path₀
-      path_below =
-          let n : ℕ = length path₀ - left in
-          let more : length chosen - (left - 1) ≡ n + 1 = omega (arith, chosen-length) in
-          let same : take (n + 1) path' ≡ take (n + 1) chosen = subst (λ (k : ℕ). take k path' ≡ take k chosen) more same_chosen in
-          sym (take-take n (n + 1) path' (omega arith)) ∙ ap (take n) same ∙ take-take n (n + 1) chosen (omega arith)
-          ∙ take-set-le n path n c (omega arith) ∙ state.chosen
+  module _ (path' : List ℕ) (same-path : length path' ≡ length chosen) (same_chosen : take (length chosen - (left - 1)) path' ≡ take (length chosen - (left - 1)) chosen) where
+    pub path_length_below : length path' ≡ length path₀
+    path_length_below = same-path ∙ chosen-length
 
-      pub branch_more : (after : List ℕ) → length after ≡ length free_below → (more : ℕ) → Told m Q' (left - 1) (length chosen) (take (length chosen - (left - 1)) chosen) free_below after (Some more)
-          → Standing m Q left path₀ found₀ (c + 1) (count + more) path' (put_mid (count * length path₀) (length found - count * length path₀) found after)
-      branch_more after same-room more told =
-          let new : Written (length path₀) (take (length path₀ - left) path₀ ++ (c ∷ [])) free_below told.0 more after =
-          subst (λ (t : List ℕ). Written (length path₀) t free_below told.0 more after) chosen_front
-          (subst (λ (k : ℕ). Written k (take (length chosen - (left - 1)) chosen) free_below told.0 more after) chosen-length told.2) in
-          standing_more m Q left (omega arith) path₀ found₀ fits c count path found element state told.0 more path' after
-          (continuations told.0 told.1) path_length_below path_below same-room new
+    pub path_below : take (length path₀ - left) path' ≡ take (length path₀ - left) path₀
+    path_below =
+        let n : ℕ = length path₀ - left in
+        let more : length chosen - (left - 1) ≡ n + 1 = omega (arith, chosen-length, tried.deep, tried.fits) in
+        let same : take (n + 1) path' ≡ take (n + 1) chosen = subst (λ (k : ℕ). take k path' ≡ take k chosen) more same_chosen in
+        sym (take-take n (n + 1) path' (omega arith)) ∙ ap (take n) same ∙ take-take n (n + 1) chosen (omega arith)
+        ∙ take-set-le n path n c (omega arith) ∙ tried.state.chosen
 
-      pub branch_over : (after : List ℕ) → Told m Q' (left - 1) (length chosen) (take (length chosen - (left - 1)) chosen) free_below after None
-          → TooMany m Q left (length path₀) found₀
-      branch_over after told =
-          standing_over m Q left (omega arith) path₀ found₀ fits c count path found element state told.0
-          (alone_below told.0 told.1) told.2
-          (subst (λ (k : ℕ). length free_below < length told.0 * k) chosen-length told.3)
+    pub branch_more : (after : List ℕ) → length after ≡ length free_below → (more : ℕ) → Told m Q' (left - 1) (length chosen) (take (length chosen - (left - 1)) chosen) free_below after (Some more)
+        → Standing m Q left path₀ found₀ (c + 1) (count + more) path' (put_mid (count * length path₀) (length found - count * length path₀) found after)
+    branch_more after same-room more told =
+        let new : Written (length path₀) (take (length path₀ - left) path₀ ++ (c ∷ [])) free_below told.0 more after =
+        subst (λ (t : List ℕ). Written (length path₀) t free_below told.0 more after) chosen_front
+        (subst (λ (k : ℕ). Written k (take (length chosen - (left - 1)) chosen) free_below told.0 more after) chosen-length told.2) in
+        standing_more m Q left (omega (arith, tried.deep)) path₀ found₀ tried.fits c count path found tried.element tried.state told.0 more path' after
+        (continuations m laws Q Q' left c tried.roots told.0 told.1) path_length_below path_below same-room new
+
+    pub branch_over : (after : List ℕ) → Told m Q' (left - 1) (length chosen) (take (length chosen - (left - 1)) chosen) free_below after None
+        → TooMany m Q left (length path₀) found₀
+    branch_over after told =
+        standing_over m Q left (omega (arith, tried.deep)) path₀ found₀ tried.fits c count path found tried.element tried.state told.0
+        (alone_below m laws Q Q' left c tried.roots told.0 told.1) told.2
+        (subst (λ (k : ℕ). length free_below < length told.0 * k) chosen-length told.3)
