@@ -5,10 +5,12 @@ use native.Mathlib.Decide.{ℕ_discrete}
 use borrow.Rule.Slice.PartMut.{put_mid}
 use Rattle.std.specs.List.{ContainsAt, flat_map, AllByRecursion}
 use Rattle.std.proofs.ByRecursion.{All-append, All-map, All-weaker, has_append_left, has_append_right}
-use Rattle.std.proofs.lemmas.List.{append_assoc, append-nil, length-append, length-map, get_or-map, take_more_set, take_all, take_rest, take-take, take-set-le, drop-drop, drop_all, length-set, length-drop, length-take-le}
+use Rattle.std.proofs.lemmas.List.{append_assoc, append-nil, length-append, length-map, get_or-map, take_more_set, drop_more, take_all, take_rest, take-take, take-set-le, drop-drop, drop_all, length-set, length-drop, length-take-le}
+use Rattle.std.proofs.lemmas.Grind.{flat_map-append}
 use Rattle.std.proofs.Math.Seq.{take-append-add, drop-append-add}
 use Rattle.field.specs.Meaning.{FieldMeaning, FieldLaws}
 use Rattle.bivariate.specs.Bivariate.{Elements, Root, Distinct}
+use Rattle.bivariate.proofs.Embedding.{get_or-element}
 use Rattle.decoding.specs.Roots.{RootWith, RootsBelow, Written, TooMany, Told}
 
 -- ---- lists of lists
@@ -31,10 +33,6 @@ has_onto : (c : ℕ) (gs : List (List ℕ)) (g : List ℕ) → ContainsAt gs g �
 has_onto c gs g h =
     (h.0, omega (arith, length-map gs (λ (f : List ℕ). c ∷ f), h.1), λ d. get_or-map (λ (f : List ℕ). c ∷ f) gs h.0 [] d h.1 ∙ ap (λ (f : List ℕ). c ∷ f) (h.2 []))
 
-joined_append : {X A : Type 0} (f : X → List A) (xs ys : List X) → flat_map f (xs ++ ys) ≡ flat_map f xs ++ flat_map f ys
-joined_append f [] ys = refl
-joined_append f (x ∷ xs) ys = ap (λ l. f x ++ l) (joined_append f xs ys) ∙ sym (append_assoc (f x) (flat_map f xs) (flat_map f ys))
-
 joined_onto : (chosen : List ℕ) (c : ℕ) (gs : List (List ℕ))
     → flat_map (λ f. chosen ++ f) (map (λ g. c ∷ g) gs) ≡ flat_map (λ g. (chosen ++ (c ∷ [])) ++ g) gs
 joined_onto chosen c [] = refl
@@ -54,13 +52,8 @@ Progress m Q left k chosen before c count now =
     (fs : List (List ℕ)) × RootsBelow m Q left c fs × Written k chosen before fs count now
 
 module _ (m : FieldMeaning) (Q : List (List ℕ)) (left : ℕ) (first : 1 ≤ left) where
-  -- a root begins with a coefficient
-  opened : (f : List ℕ) → length f ≡ left → f ≡ get_or f 0 0 ∷ drop 1 f
-  opened [] e = absurd (omega arith)
-  opened (x ∷ f) e = refl
-
   follows : (c : ℕ) (f : List ℕ) → RootWith m Q left f → get_or f 0 0 ≡ c → f ≡ c ∷ drop 1 f
-  follows c f r e = opened f r.coefficients ∙ ap (λ (x : ℕ). x ∷ drop 1 f) e
+  follows c f r e = drop_more f 0 0 (omega (arith, r.coefficients)) ∙ ap (λ (x : ℕ). x ∷ drop 1 f) e
 
   rest_root : (c : ℕ) (f : List ℕ) → RootWith m Q left f → f ≡ c ∷ drop 1 f
       → (length (drop 1 f) ≡ left - 1) × Elements m (drop 1 f) × Root m Q (c ∷ drop 1 f)
@@ -173,7 +166,7 @@ module _ (k c count more : ℕ) (chosen before now after : List ℕ) (fs gs : Li
       ∙ ap (λ (n : ℕ). take (n + more * k) (take (count * k) now ++ after)) (sym front)
       ∙ take-append-add (take (count * k) now) after (more * k)
       ∙ ap₂ (λ (u v : List ℕ). u ++ v) old.2 (new.2 ∙ sym (joined_onto chosen c gs))
-      ∙ sym (joined_append (λ (f : List ℕ). chosen ++ f) fs (map (λ g. c ∷ g) gs))
+      ∙ sym (flat_map-append (λ (f : List ℕ). chosen ++ f) fs (map (λ g. c ∷ g) gs))
 
   written_beyond : drop ((count + more) * k) whole ≡ drop ((count + more) * k) before
   written_beyond =
@@ -341,10 +334,6 @@ module _ (m : FieldMeaning) (Q : List (List ℕ)) (path₀ found₀ : List ℕ) 
 
 module _ (m : FieldMeaning) (laws : FieldLaws m) (Q Q' : List (List ℕ)) (left c : ℕ)
     (roots : (f : List ℕ) → Elements m f → Root m Q (c ∷ f) ↔ Root m Q' f) where
-  below_first : (g : List ℕ) → Elements m g → get_or g 0 0 < m.size
-  below_first [] h = omega (arith, laws.size_low)
-  below_first (x ∷ g) h = h.0
-
   alone_below : (gs : List (List ℕ)) → AllByRecursion (RootWith m Q' (left - 1)) gs → AllByRecursion (λ g. (length g ≡ left - 1) × Elements m g × Root m Q (c ∷ g)) gs
   alone_below =
       All-weaker (RootWith m Q' (left - 1)) (λ g. (length g ≡ left - 1) × Elements m g × Root m Q (c ∷ g))
@@ -353,7 +342,7 @@ module _ (m : FieldMeaning) (laws : FieldLaws m) (Q Q' : List (List ℕ)) (left 
   continuations : (gs : List (List ℕ)) → RootsBelow m Q' (left - 1) m.size gs → Continuations m Q (left - 1) c gs
   continuations gs told = record {
     alone = alone_below gs (All-weaker (λ f. RootWith m Q' (left - 1) f × (get_or f 0 0 < m.size)) (RootWith m Q' (left - 1)) (λ f r. r.0) gs told.alone);
-    complete = λ g e h r. told.complete g record { coefficients = e; elements = h; root = (roots g h).0 r } (below_first g h);
+    complete = λ g e h r. told.complete g record { coefficients = e; elements = h; root = (roots g h).0 r } (get_or-element m laws g 0 h);
     once = told.once;
   }
 

@@ -43,9 +43,6 @@ pub zero_answered : (m : FieldMeaning) (p q : List ℕ) (c : ℕ) (b : Bool) →
 zero_answered m p q c b same h l e =
     e ∙ ap (λ (o : Option ℕ). option_eq eqb o (Some 0)) (ap (λ (k : List ℕ). value_answer m k c) same ∙ value_answered m q c h l)
 
-pub group-elements : (m : FieldMeaning) (w g : ℕ) (cs : List ℕ) → Elements m cs → Elements m (group w cs g)
-group-elements m w g cs h = All-take (λ x. x < m.size) w (drop (g * w) cs) (All-drop (λ x. x < m.size) (g * w) cs h)
-
 -- what `all` went over: the groups of a list
 module _ {S : Type 0} {steps : S → Option (Bor (List ℕ)) → S → Type 0} (p : Run steps) (any : Bor (List ℕ)) (w : ℕ) (cs : List ℕ) (groups : IsChunksExactRun p w cs)
     (Passes : Bor (List ℕ) → Type 0) where

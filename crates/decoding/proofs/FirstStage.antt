@@ -10,6 +10,7 @@ use Rattle.bivariate.specs.Grid.{cell, grid, Weighted, Nonzero}
 use Rattle.bivariate.specs.Steps.{Divided}
 use Rattle.bivariate.specs.Terms.{term_count, most_y, by_powers, polynomial}
 use Rattle.bivariate.proofs.Coefficients.{polynomial-elements, polynomial_zeros, polynomial_weighted}
+use Rattle.bivariate.proofs.Embedding.{get_or-element}
 use Rattle.bivariate.proofs.GridRoots.{root_laid_out, nonzero_laid_out, root_divided, weighted_divided, few_roots}
 use Rattle.decoding.specs.Roots.{RootWith, Told}
 use Rattle.decoding.proofs.Advance.{from_cells, divided_elements}
@@ -24,14 +25,9 @@ by_powers_short : (a d e k : ℕ) (cs : List ℕ) → e ≤ d → AllByRecursion
 by_powers_short a d e zero cs h = tt
 by_powers_short a d e (suc k) cs h = (omega (arith, length-take e cs), by_powers_short a d (e - a) k (drop e cs) (omega arith))
 
-row-element : (m : FieldMeaning) → FieldLaws m → (row : List ℕ) (g : ℕ) → Elements m row → get_or row g 0 < m.size
-row-element m laws [] g h = omega (arith, laws.size_low)
-row-element m laws (c ∷ row) zero h = h.0
-row-element m laws (c ∷ row) (suc g) h = row-element m laws row g h.1
-
 coefficient-element : (m : FieldMeaning) → FieldLaws m → (Q : List (List ℕ)) (g j : ℕ) → AllByRecursion (Elements m) Q → coefficient Q g j < m.size
 coefficient-element m laws [] g j h = omega (arith, laws.size_low)
-coefficient-element m laws (row ∷ Q) g zero h = row-element m laws row g h.0
+coefficient-element m laws (row ∷ Q) g zero h = get_or-element m laws row g h.0
 coefficient-element m laws (row ∷ Q) g (suc j) h = coefficient-element m laws Q g j h.1
 
 -- ---- a search among other roots, which are the same

@@ -10,6 +10,7 @@ use Rattle.field.specs.Meaning.{FieldMeaning, FieldLaws}
 use Rattle.bivariate.specs.Bivariate.{Elements, Zeros, Distinct}
 use Rattle.bivariate.specs.Terms.{term_count, most_y, polynomial}
 use Rattle.bivariate.specs.Values.{elements_only}
+use Rattle.bivariate.proofs.Embedding.{get_or-element}
 use Rattle.bivariate.proofs.ElementTests.{elements_from}
 use Rattle.refusal.specs.Tables.{first_refusal}
 use Rattle.refusal.specs.Tables.{within}
@@ -62,10 +63,6 @@ split_pieces k (f ∷ fs) l h e =
 
 module _ (m : FieldMeaning) (laws : FieldLaws m) (a d : ℕ) (cs found : List ℕ) (room : found_bytes a d ≤ length found)
     (few : (fs : List (List ℕ)) → AllByRecursion (RootWith m (polynomial a d cs) (suc a)) fs → Distinct fs → length fs ≤ most_y a d) where
-  below_size : (f : List ℕ) → Elements m f → get_or f 0 0 < m.size
-  below_size [] h = omega (arith, laws.size_low)
-  below_size (x ∷ f) h = h.0
-
   -- there is room for all
   pub never_full : TooMany m (polynomial a d cs) (suc a) (suc a) found → ⊥
   never_full (fs, roots, once, over) =
@@ -96,7 +93,7 @@ module _ (m : FieldMeaning) (laws : FieldLaws m) (a d : ℕ) (cs found : List �
     unfolding fs
     roots_found = subst (RootsFound m (polynomial a d cs) (suc a) (most_y a d)) (sym taken_apart) record {
       alone = alone;
-      complete = λ f r. told.1.complete f r (below_size f r.elements);
+      complete = λ f r. told.1.complete f r (get_or-element m laws f 0 r.elements);
       once = told.1.once;
       few = few told.0 alone told.1.once;
     }
