@@ -62,7 +62,7 @@ pub record LaidOut (m : FieldMeaning) (a d : ℕ) (cs : List ℕ) (w : ℕ) (sta
   pub terms : length cs ≤ term_count a d
   pub elements : Elements m cs
   pub nonzero : ¬ (Zeros cs)
-  pub wide : w ≡ most_y a d + 1
+  pub wide : w ≡ suc (most_y a d)
   pub sized : length stage ≡ d * w
   pub cells : (g j : ℕ) → g < d → j < w → cell w stage g j ≡ coefficient (polynomial a d cs) g j
 

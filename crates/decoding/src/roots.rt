@@ -39,7 +39,7 @@ pub fn search_room(a: usize, d: usize) -> Option<Room>
     })
 }
 
-// Refuses what cannot be searched.
+// Refuses what cannot be searched. `decode` has a table of its own, which names the sizes of a word.
 fn check<F: Field>(
     field: &F,
     a: usize,
@@ -79,7 +79,7 @@ fn check<F: Field>(
 
 // Finds every polynomial f of degree at most a with Q(x, f(x)) = 0, where Q has these coefficients in the order of its
 // terms x^g·y^j with g + a·j < d. They stand one behind the other in `found`, each with a + 1 coefficients, and are as many
-// as the call returns.
+// as the call returns: no heap is used.
 pub fn find_roots<F: Field>(
     field: &F,
     a: usize,

@@ -51,19 +51,27 @@ impl Search {
         ensures { result ≡ memory_bytes self.terms.a self.terms.d }
     {
         let k = self.terms.a + 1;
-        k + k * (self.terms.d * (self.terms.most_y() + 1))
+        k + k * (self.terms.d * self.width())
+    }
+
+    // How many powers of y the polynomial can have.
+    fn width(self) -> usize
+        ensures { result ≡ suc (most_y self.terms.a self.terms.d) }
+    {
+        self.terms.most_y() + 1
     }
 
     // Lays the polynomial with these coefficients out in a grid.
-    fn lay_out(self, shape: Shape, coefficients: &[u8], cells: &mut [u8])
-        requires sized { length cells.old ≡ shape.d * shape.w }
+    fn lay_out(self, coefficients: &[u8], cells: &mut [u8])
+        requires sized { length cells.old ≡ self.terms.d * suc (most_y self.terms.a self.terms.d) }
         ensures same_length { length cells.new ≡ length cells.old }
-        ensures cells { (g j : ℕ) → g < shape.d → j < shape.w → cell shape.w cells.new g j ≡ coefficient (polynomial self.terms.a self.terms.d coefficients.now) g j }
+        ensures cells { (g j : ℕ) → g < self.terms.d → j < suc (most_y self.terms.a self.terms.d) → cell (suc (most_y self.terms.a self.terms.d)) cells.new g j ≡ coefficient (polynomial self.terms.a self.terms.d coefficients.now) g j }
     {
+        let w = self.width();
         for (k, cell) in cells.iter_mut().enumerate() {
             *cell = self
                 .terms
-                .coefficient(coefficients, k / shape.w, k % shape.w);
+                .coefficient(coefficients, k / w, k % w);
         }
     }
 
@@ -86,12 +94,12 @@ impl Search {
     {
         let k = self.terms.a + 1;
         let shape = Shape {
-            w: self.terms.most_y() + 1,
+            w: self.width(),
             d: self.terms.d,
         };
         let (path, stages) = memory.split_at_mut(k);
         let (cells, deeper) = stages.split_at_mut(shape.d * shape.w);
-        self.lay_out(shape, coefficients, cells);
+        self.lay_out(coefficients, cells);
         shape.divide(cells);
         let stage = Stage {
             field,

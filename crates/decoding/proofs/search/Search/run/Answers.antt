@@ -1,5 +1,7 @@
-use Rattle.std.proofs.Common.{◌+◌, [], suc, ◌∙◌, subst, arith}
-use Rattle.bivariate.specs.Terms.{most_y, polynomial}
+use Rattle.std.proofs.Common.{◌≡◌, ℕ, ◌+◌, ◌<◌, [], suc, sym, ◌∙◌, subst, arith}
+use Rattle.bivariate.specs.Bivariate.{coefficient}
+use Rattle.bivariate.specs.Grid.{cell}
+use Rattle.bivariate.specs.Terms.{polynomial}
 use Rattle.decoding.specs.Roots.{Told}
 use Rattle.decoding.proofs.FirstStage.{LaidOut, stage_nonzero, few, next_elements, next_weighted, first_told}
 use Rattle.decoding.proofs.Found.{always_some, roots_found}
@@ -8,7 +10,7 @@ use Rattle.decoding.proofs.search.Search.run.Goals.{After-lay_out, After-explore
 use Rattle.decoding.proofs.search.Search.run.Given as given
 
 laid_out : (g : given.Over) (c : After-lay_out g)
-    → LaidOut (g.F.Field.meaning c.args.field.now) c.args.self.terms.a c.args.self.terms.d c.args.coefficients.now (c.most_y.result + 1) c.lay_out.new.cells
+    → LaidOut (g.F.Field.meaning c.args.field.now) c.args.self.terms.a c.args.self.terms.d c.args.coefficients.now c.width.result c.lay_out.new.cells
 laid_out g c =
     let t = c.args.self.terms in
     record {
@@ -17,9 +19,9 @@ laid_out g c =
       terms = c.requires.terms;
       elements = c.requires.elements;
       nonzero = c.requires.nonzero;
-      wide = omega (arith, c.most_y.ensures);
+      wide = c.width.ensures;
       sized = c.lay_out.ensures.same_length ∙ c.split_at_mut-cells.ensures.front_len;
-      cells = c.lay_out.ensures.cells;
+      cells = subst (λ (w : ℕ). (g j : ℕ) → g < t.d → j < w → cell w c.lay_out.new.cells g j ≡ coefficient (polynomial t.a t.d c.args.coefficients.now) g j) (sym c.width.ensures) c.lay_out.ensures.cells;
     }
 
 -- what exploring told, of the polynomial that was searched
