@@ -9,6 +9,7 @@ use bivariate::value_at;
 use field::Field;
 
 // Enters a polynomial where there is room, and answers None where there is not: an Option, so that the caller can use `?`.
+// Tried: after a write through `room.get_mut(..k)?` it is not known what the room holds.
 fn enter(room: &mut [u8], f: &[u8]) -> Option<()>
     ensures same_length { length room.new ≡ length room.old }
     ensures entered { MatchOption result (length room.old < length f.now) (λ _. (length f.now ≤ length room.old) × (take (length f.now) room.new ≡ f.now) × (drop (length f.now) room.new ≡ drop (length f.now) room.old)) }

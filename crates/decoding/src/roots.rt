@@ -78,8 +78,8 @@ fn check<F: Field>(
 }
 
 // Finds every polynomial f of degree at most a with Q(x, f(x)) = 0, where Q has these coefficients in the order of its
-// terms x^g·y^j with g + a·j < d. They stand one behind the other in `found`, each with a + 1 coefficients, and are as many
-// as the call returns: no heap is used.
+// terms x^g·y^j with g + a·j < d. As no heap is used, they stand one behind the other in `found`, each with a + 1
+// coefficients, and are as many as the call returns.
 pub fn find_roots<F: Field>(
     field: &F,
     a: usize,

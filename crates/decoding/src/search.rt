@@ -69,9 +69,7 @@ impl Search {
     {
         let w = self.width();
         for (k, cell) in cells.iter_mut().enumerate() {
-            *cell = self
-                .terms
-                .coefficient(coefficients, k / w, k % w);
+            *cell = self.terms.coefficient(coefficients, k / w, k % w);
         }
     }
 
