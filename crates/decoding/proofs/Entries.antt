@@ -7,7 +7,6 @@ use Rattle.std.specs.List.{IsSubsliceAt, slice_index_or}
 use Rattle.std.specs.Iterator.Runs.{Run, AllItems, AnyItem, IsChunksExactRun}
 use Rattle.std.proofs.Math.Nat.{mul-div_cancel}
 use Rattle.std.proofs.lemmas.Nat.{le-div}
-use Rattle.std.proofs.ByRecursion.{All-take, All-drop}
 use Rattle.field.specs.Meaning.{FieldMeaning, FieldLaws}
 use Rattle.field.specs.Polynomial.{value_at}
 use Rattle.bivariate.specs.Bivariate.{Elements, Root}

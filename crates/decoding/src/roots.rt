@@ -4,7 +4,7 @@ ghost use Rattle.refusal.specs.Tables.{Answers, within};
 ghost use Rattle.bivariate.specs.Terms.{most_y, polynomial};
 ghost use Rattle.decoding.specs.Decoding.{pieces, only_zeros, found_bytes, memory_bytes, RootsFound, root_rows};
 
-use crate::search::Search;
+use crate::search::{Search, Subject};
 use bivariate::{Terms, first_stranger};
 use field::Field;
 use interpolation::Fault;
@@ -40,15 +40,15 @@ pub fn search_room(a: usize, d: usize) -> Option<Room>
 }
 
 // Refuses what cannot be searched. `decode` has a table of its own, which names the sizes of a word.
-fn check<F: Field>(
-    field: &F,
+fn check<'a, F: Field>(
+    field: &'a F,
     a: usize,
     d: usize,
-    coefficients: &[u8],
+    coefficients: &'a [u8],
     room: usize,
     memory: usize,
-) -> Result<Search, Fault>
-    ensures { Answers result (root_rows (F.Field.meaning field.now) a d coefficients.now room memory) (λ s. (s.terms.a ≡ a) × (s.terms.d ≡ d)) }
+) -> Result<Subject<'a, F>, Fault>
+    ensures { Answers result (root_rows (F.Field.meaning field.now) a d coefficients.now room memory) (λ s. (s.field.now ≡ field.now) × (s.coefficients.now ≡ coefficients.now) × (s.search.terms.a ≡ a) × (s.search.terms.d ≡ d)) }
 {
     if !(1..=255).contains(&a) {
         return Err(Fault::DegreeOutOfRange(a));
@@ -74,7 +74,11 @@ fn check<F: Field>(
     if only_zeros(coefficients) {
         return Err(Fault::AllZero);
     }
-    Ok(search)
+    Ok(Subject {
+        field,
+        search,
+        coefficients,
+    })
 }
 
 // Finds every polynomial f of degree at most a with Q(x, f(x)) = 0, where Q has these coefficients in the order of its
@@ -92,6 +96,6 @@ pub fn find_roots<F: Field>(
     ensures refused { is_err result ≡ true → (found.new ≡ found.old) × (memory.new ≡ memory.old) }
     ensures lengths { (length found.new ≡ length found.old) × (length memory.new ≡ length memory.old) }
 {
-    let search = check(field, a, d, coefficients, found.len(), memory.len())?;
-    Ok(search.run(field, coefficients, found, memory))
+    let subject = check(field, a, d, coefficients, found.len(), memory.len())?;
+    Ok(subject.run(found, memory))
 }
