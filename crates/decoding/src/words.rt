@@ -50,11 +50,11 @@ fn check<F: Field>(
     if n > field.size() as usize {
         return Err(Fault::WordTooLong(n));
     }
-    let search = Search::for_word(a, n);
-    if room < search.found_bytes() {
-        return Err(Fault::RoomTooShort(search.found_bytes()));
+    let wanted = Search::for_word(a, n);
+    if room < wanted.found_bytes() {
+        return Err(Fault::RoomTooShort(wanted.found_bytes()));
     }
-    let needed = (n + 1) * (n + 2) + search.memory_bytes();
+    let needed = (n + 1) * (n + 2) + wanted.memory_bytes();
     if memory < needed {
         return Err(Fault::MemoryTooShort(needed));
     }
