@@ -45,46 +45,55 @@ divided_elements m laws w d r cs next sized same divided h =
     by g j hg hj (yes l) = subst (λ (x : ℕ). x < m.size) (sym (divided.moved g j hg hj l)) (cell_below m laws w d cs sized h (g + r) j l hj)
     by g j hg hj (no l) = subst (λ (x : ℕ). x < m.size) (sym (divided.cleared g j hg hj (omega arith))) (omega (arith, laws.size_low))
 
-module _ (m : FieldMeaning) (laws : FieldLaws m) (c w d : ℕ) (element : c < m.size) (stage moved spread : List ℕ) (sized : length stage ≡ d * w)
-    (elements : Elements m stage) (weighted : Weighted 1 w d stage) (shift : Shifted m c w d stage moved) (out : Spread w d moved spread) where
+-- a stage of elements, with y + c in the place of y, and then with x·y in the place of y
+pub record Steps (m : FieldMeaning) (c w d : ℕ) (stage moved spread : List ℕ) : Type 0 where
+  pub element : c < m.size
+  pub sized : length stage ≡ d * w
+  pub elements : Elements m stage
+  pub weighted : Weighted 1 w d stage
+  pub shift : Shifted m c w d stage moved
+  pub shifted_elements : Elements m moved
+  pub out : Spread w d moved spread
+
+module _ (m : FieldMeaning) (laws : FieldLaws m) (c w d : ℕ) (stage moved spread : List ℕ) (steps : Steps m c w d stage moved spread) where
   size : length stage ≡ w * d
-  size = sized ∙ mul_comm d w
+  size = steps.sized ∙ mul_comm d w
 
   -- shifting by c and then moving up is putting c + x·y for y
   pub substituted : Substituted m c w d stage spread
   substituted = record {
     moved = λ g j hg hj l.
-        out.moved g j hg hj l ∙ sym (group-cell w moved (g - j) j hj)
-        ∙ ap (λ (p : List ℕ). get_or p j 0) (shift.groups (g - j) (omega arith));
-    cleared = out.emptied;
+        steps.out.moved g j hg hj l ∙ sym (group-cell w moved (g - j) j hj)
+        ∙ ap (λ (p : List ℕ). get_or p j 0) (steps.shift.groups (g - j) (omega arith));
+    cleared = steps.out.emptied;
   }
 
   pub still_nonzero : Nonzero w d stage → Nonzero w d spread
-  still_nonzero = nonzero_substituted m laws w d c stage spread elements element size weighted substituted
+  still_nonzero = nonzero_substituted m laws w d c stage spread steps.elements steps.element size steps.weighted substituted
 
-  module _ (r : ℕ) (next : List ℕ) (low : r < d) (same : length next ≡ length spread) (divided : Divided w d r spread next) where
+  module _ (next : List ℕ) (same : length next ≡ length spread) (power : (r : ℕ) × (r < d) × Divided w d r spread next) where
     spread_sized : length spread ≡ d * w
-    spread_sized = out.same_length ∙ shift.same_length ∙ sized
+    spread_sized = steps.out.same_length ∙ steps.shift.same_length ∙ steps.sized
 
-    pub spread-elements : Elements m moved → Elements m spread
-    spread-elements h =
+    spread-elements : Elements m spread
+    spread-elements =
         from_cells m w d spread spread_sized (λ g j hg hj. by g j hg hj (dec_le j g))
       where
         by : (g j : ℕ) → g < d → j < w → Dec (j ≤ g) → cell w spread g j < m.size
         by g j hg hj (yes l) =
-            subst (λ (x : ℕ). x < m.size) (sym (out.moved g j hg hj l))
-            (cell_below m laws w d moved (shift.same_length ∙ sized) h (g - j) j (omega arith) hj)
-        by g j hg hj (no l) = subst (λ (x : ℕ). x < m.size) (sym (out.emptied g j hg hj (omega arith))) (omega (arith, laws.size_low))
+            subst (λ (x : ℕ). x < m.size) (sym (steps.out.moved g j hg hj l))
+            (cell_below m laws w d moved (steps.shift.same_length ∙ steps.sized) steps.shifted_elements (g - j) j (omega arith) hj)
+        by g j hg hj (no l) = subst (λ (x : ℕ). x < m.size) (sym (steps.out.emptied g j hg hj (omega arith))) (omega (arith, laws.size_low))
 
-    pub next_elements : Elements m moved → Elements m next
-    next_elements h = divided_elements m laws w d r spread next spread_sized same divided (spread-elements h)
+    pub next_elements : Elements m next
+    next_elements = divided_elements m laws w d power.0 spread next spread_sized same power.2 spread-elements
 
     pub next_weights : (v : ℕ) → Weighted (suc v) w d stage → Weighted v w d next
     next_weights v h =
-        weighted_divided v w d r spread next divided (weighted_substituted m laws v w d c stage spread elements element size h substituted)
+        weighted_divided v w d power.0 spread next power.2 (weighted_substituted m laws v w d c stage spread steps.elements steps.element size h substituted)
 
-    pub next_roots : Elements m moved → (f : List ℕ) → Elements m f → Root m (grid w d stage) (c ∷ f) ↔ Root m (grid w d next) f
-    next_roots h f hf =
-        let first = root_substituted m laws w d c stage spread f elements (spread-elements h) element hf size weighted substituted in
-        let second = root_divided m laws w d r spread next f (spread-elements h) (next_elements h) hf low divided in
+    pub next_roots : (f : List ℕ) → Elements m f → Root m (grid w d stage) (c ∷ f) ↔ Root m (grid w d next) f
+    next_roots f hf =
+        let first = root_substituted m laws w d c stage spread f steps.elements spread-elements steps.element hf size steps.weighted substituted in
+        let second = root_divided m laws w d power.0 spread next f spread-elements next_elements hf power.1 power.2 in
         ((λ t. second.0 (first.0 t)), λ t. first.1 (second.1 t))

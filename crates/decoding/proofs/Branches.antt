@@ -5,10 +5,12 @@ use native.Mathlib.Decide.{ℕ_discrete}
 use borrow.Rule.Slice.PartMut.{put_mid}
 use Rattle.std.specs.List.{ContainsAt, flat_map, AllByRecursion}
 use Rattle.std.proofs.ByRecursion.{All-append, All-map, All-weaker, has_append_left, has_append_right}
-use Rattle.std.proofs.lemmas.List.{append_assoc, append-nil, length-append, length-map, get_or-map, take_more_set, take_all, take_rest, take-take, take-set-le, drop-drop, drop_all, length-set, length-drop, length-take-le}
+use Rattle.std.proofs.lemmas.List.{append_assoc, append-nil, length-append, length-map, get_or-map, take_more_set, drop_more, take_all, take_rest, take-take, take-set-le, drop-drop, drop_all, length-set, length-drop, length-take-le}
+use Rattle.std.proofs.lemmas.Grind.{flat_map-append}
 use Rattle.std.proofs.Math.Seq.{take-append-add, drop-append-add}
 use Rattle.field.specs.Meaning.{FieldMeaning, FieldLaws}
 use Rattle.bivariate.specs.Bivariate.{Elements, Root, Distinct}
+use Rattle.bivariate.proofs.Embedding.{get_or-element}
 use Rattle.decoding.specs.Roots.{RootWith, RootsBelow, Written, TooMany, Told}
 
 -- ---- lists of lists
@@ -31,10 +33,6 @@ has_onto : (c : ℕ) (gs : List (List ℕ)) (g : List ℕ) → ContainsAt gs g �
 has_onto c gs g h =
     (h.0, omega (arith, length-map gs (λ (f : List ℕ). c ∷ f), h.1), λ d. get_or-map (λ (f : List ℕ). c ∷ f) gs h.0 [] d h.1 ∙ ap (λ (f : List ℕ). c ∷ f) (h.2 []))
 
-joined_append : {X A : Type 0} (f : X → List A) (xs ys : List X) → flat_map f (xs ++ ys) ≡ flat_map f xs ++ flat_map f ys
-joined_append f [] ys = refl
-joined_append f (x ∷ xs) ys = ap (λ l. f x ++ l) (joined_append f xs ys) ∙ sym (append_assoc (f x) (flat_map f xs) (flat_map f ys))
-
 joined_onto : (chosen : List ℕ) (c : ℕ) (gs : List (List ℕ))
     → flat_map (λ f. chosen ++ f) (map (λ g. c ∷ g) gs) ≡ flat_map (λ g. (chosen ++ (c ∷ [])) ++ g) gs
 joined_onto chosen c [] = refl
@@ -54,13 +52,8 @@ Progress m Q left k chosen before c count now =
     (fs : List (List ℕ)) × RootsBelow m Q left c fs × Written k chosen before fs count now
 
 module _ (m : FieldMeaning) (Q : List (List ℕ)) (left : ℕ) (first : 1 ≤ left) where
-  -- a root begins with a coefficient
-  opened : (f : List ℕ) → length f ≡ left → f ≡ get_or f 0 0 ∷ drop 1 f
-  opened [] e = absurd (omega arith)
-  opened (x ∷ f) e = refl
-
   follows : (c : ℕ) (f : List ℕ) → RootWith m Q left f → get_or f 0 0 ≡ c → f ≡ c ∷ drop 1 f
-  follows c f r e = opened f r.coefficients ∙ ap (λ (x : ℕ). x ∷ drop 1 f) e
+  follows c f r e = drop_more f 0 0 (omega (arith, r.coefficients)) ∙ ap (λ (x : ℕ). x ∷ drop 1 f) e
 
   rest_root : (c : ℕ) (f : List ℕ) → RootWith m Q left f → f ≡ c ∷ drop 1 f
       → (length (drop 1 f) ≡ left - 1) × Elements m (drop 1 f) × Root m Q (c ∷ drop 1 f)
@@ -173,7 +166,7 @@ module _ (k c count more : ℕ) (chosen before now after : List ℕ) (fs gs : Li
       ∙ ap (λ (n : ℕ). take (n + more * k) (take (count * k) now ++ after)) (sym front)
       ∙ take-append-add (take (count * k) now) after (more * k)
       ∙ ap₂ (λ (u v : List ℕ). u ++ v) old.2 (new.2 ∙ sym (joined_onto chosen c gs))
-      ∙ sym (joined_append (λ (f : List ℕ). chosen ++ f) fs (map (λ g. c ∷ g) gs))
+      ∙ sym (flat_map-append (λ (f : List ℕ). chosen ++ f) fs (map (λ g. c ∷ g) gs))
 
   written_beyond : drop ((count + more) * k) whole ≡ drop ((count + more) * k) before
   written_beyond =
@@ -341,10 +334,6 @@ module _ (m : FieldMeaning) (Q : List (List ℕ)) (path₀ found₀ : List ℕ) 
 
 module _ (m : FieldMeaning) (laws : FieldLaws m) (Q Q' : List (List ℕ)) (left c : ℕ)
     (roots : (f : List ℕ) → Elements m f → Root m Q (c ∷ f) ↔ Root m Q' f) where
-  below_first : (g : List ℕ) → Elements m g → get_or g 0 0 < m.size
-  below_first [] h = omega (arith, laws.size_low)
-  below_first (x ∷ g) h = h.0
-
   alone_below : (gs : List (List ℕ)) → AllByRecursion (RootWith m Q' (left - 1)) gs → AllByRecursion (λ g. (length g ≡ left - 1) × Elements m g × Root m Q (c ∷ g)) gs
   alone_below =
       All-weaker (RootWith m Q' (left - 1)) (λ g. (length g ≡ left - 1) × Elements m g × Root m Q (c ∷ g))
@@ -353,55 +342,63 @@ module _ (m : FieldMeaning) (laws : FieldLaws m) (Q Q' : List (List ℕ)) (left 
   continuations : (gs : List (List ℕ)) → RootsBelow m Q' (left - 1) m.size gs → Continuations m Q (left - 1) c gs
   continuations gs told = record {
     alone = alone_below gs (All-weaker (λ f. RootWith m Q' (left - 1) f × (get_or f 0 0 < m.size)) (RootWith m Q' (left - 1)) (λ f r. r.0) gs told.alone);
-    complete = λ g e h r. told.complete g record { coefficients = e; elements = h; root = (roots g h).0 r } (below_first g h);
+    complete = λ g e h r. told.complete g record { coefficients = e; elements = h; root = (roots g h).0 r } (get_or-element m laws g 0 h);
     once = told.once;
   }
 
-  module _ (path₀ found₀ : List ℕ) (deep : 2 ≤ left) (fits : left ≤ length path₀)
-      (count : ℕ) (path found : List ℕ) (element : c < m.size) (state : Standing m Q left path₀ found₀ c count path found) where
-    abbrev chosen : List ℕ
-    chosen = set path (length path₀ - left) c
+-- the search tries c as one of the last `left` coefficients, and Q' is the polynomial for those after it
+pub record Tried (m : FieldMeaning) (Q Q' : List (List ℕ)) (left : ℕ) (path₀ found₀ : List ℕ) (c count : ℕ) (path found : List ℕ) : Type 0 where
+  pub roots : (f : List ℕ) → Elements m f → Root m Q (c ∷ f) ↔ Root m Q' f
+  pub deep : 2 ≤ left
+  pub fits : left ≤ length path₀
+  pub element : c < m.size
+  pub state : Standing m Q left path₀ found₀ c count path found
 
-    pub chosen-length : length chosen ≡ length path₀
-    chosen-length = length-set path (length path₀ - left) c ∙ state.path_length
+module _ (m : FieldMeaning) (laws : FieldLaws m) (Q Q' : List (List ℕ)) (left : ℕ) (path₀ found₀ : List ℕ) (c count : ℕ) (path found : List ℕ)
+    (tried : Tried m Q Q' left path₀ found₀ c count path found) where
+  abbrev chosen : List ℕ
+  chosen = set path (length path₀ - left) c
 
-    chosen_front : take (length chosen - (left - 1)) chosen ≡ take (length path₀ - left) path₀ ++ (c ∷ [])
-    chosen_front =
-        let e : length chosen - (left - 1) ≡ length path₀ - left + 1 = omega (arith, chosen-length) in
-        ap (λ (n : ℕ). take n chosen) e
-        ∙ path_more m Q left (omega arith) path₀ found₀ fits c count path found element state
+  pub chosen-length : length chosen ≡ length path₀
+  chosen-length = length-set path (length path₀ - left) c ∙ tried.state.path_length
 
-    -- the recursion may be called
-    pub chosen_fits : left - 1 ≤ length chosen
-    chosen_fits = omega (arith, chosen-length)
+  chosen_front : take (length chosen - (left - 1)) chosen ≡ take (length path₀ - left) path₀ ++ (c ∷ [])
+  chosen_front =
+      let e : length chosen - (left - 1) ≡ length path₀ - left + 1 = omega (arith, chosen-length, tried.deep, tried.fits) in
+      ap (λ (n : ℕ). take n chosen) e
+      ∙ path_more m Q left (omega (arith, tried.deep)) path₀ found₀ tried.fits c count path found tried.element tried.state
 
-    abbrev free_below : List ℕ
-    free_below = take (length found - count * length path₀) (drop (count * length path₀) found)
+  -- the recursion may be called
+  pub chosen_fits : left - 1 ≤ length chosen
+  chosen_fits = omega (arith, chosen-length, tried.deep, tried.fits)
 
-    module _ (path' : List ℕ) (same-path : length path' ≡ length chosen) (same_chosen : take (length chosen - (left - 1)) path' ≡ take (length chosen - (left - 1)) chosen) where
-      pub path_length_below : length path' ≡ length path₀
-      path_length_below = same-path ∙ chosen-length
+  abbrev free_below : List ℕ
+  free_below = take (length found - count * length path₀) (drop (count * length path₀) found)
 
-      pub path_below : take (length path₀ - left) path' ≡ take (length path₀ - left) path₀
-      path_below =
-          let n : ℕ = length path₀ - left in
-          let more : length chosen - (left - 1) ≡ n + 1 = omega (arith, chosen-length) in
-          let same : take (n + 1) path' ≡ take (n + 1) chosen = subst (λ (k : ℕ). take k path' ≡ take k chosen) more same_chosen in
-          sym (take-take n (n + 1) path' (omega arith)) ∙ ap (take n) same ∙ take-take n (n + 1) chosen (omega arith)
-          ∙ take-set-le n path n c (omega arith) ∙ state.chosen
+  module _ (path' : List ℕ) (same-path : length path' ≡ length chosen) (same_chosen : take (length chosen - (left - 1)) path' ≡ take (length chosen - (left - 1)) chosen) where
+    pub path_length_below : length path' ≡ length path₀
+    path_length_below = same-path ∙ chosen-length
 
-      pub branch_more : (after : List ℕ) → length after ≡ length free_below → (more : ℕ) → Told m Q' (left - 1) (length chosen) (take (length chosen - (left - 1)) chosen) free_below after (Some more)
-          → Standing m Q left path₀ found₀ (c + 1) (count + more) path' (put_mid (count * length path₀) (length found - count * length path₀) found after)
-      branch_more after same-room more told =
-          let new : Written (length path₀) (take (length path₀ - left) path₀ ++ (c ∷ [])) free_below told.0 more after =
-          subst (λ (t : List ℕ). Written (length path₀) t free_below told.0 more after) chosen_front
-          (subst (λ (k : ℕ). Written k (take (length chosen - (left - 1)) chosen) free_below told.0 more after) chosen-length told.2) in
-          standing_more m Q left (omega arith) path₀ found₀ fits c count path found element state told.0 more path' after
-          (continuations told.0 told.1) path_length_below path_below same-room new
+    pub path_below : take (length path₀ - left) path' ≡ take (length path₀ - left) path₀
+    path_below =
+        let n : ℕ = length path₀ - left in
+        let more : length chosen - (left - 1) ≡ n + 1 = omega (arith, chosen-length, tried.deep, tried.fits) in
+        let same : take (n + 1) path' ≡ take (n + 1) chosen = subst (λ (k : ℕ). take k path' ≡ take k chosen) more same_chosen in
+        sym (take-take n (n + 1) path' (omega arith)) ∙ ap (take n) same ∙ take-take n (n + 1) chosen (omega arith)
+        ∙ take-set-le n path n c (omega arith) ∙ tried.state.chosen
 
-      pub branch_over : (after : List ℕ) → Told m Q' (left - 1) (length chosen) (take (length chosen - (left - 1)) chosen) free_below after None
-          → TooMany m Q left (length path₀) found₀
-      branch_over after told =
-          standing_over m Q left (omega arith) path₀ found₀ fits c count path found element state told.0
-          (alone_below told.0 told.1) told.2
-          (subst (λ (k : ℕ). length free_below < length told.0 * k) chosen-length told.3)
+    pub branch_more : (after : List ℕ) → length after ≡ length free_below → (more : ℕ) → Told m Q' (left - 1) (length chosen) (take (length chosen - (left - 1)) chosen) free_below after (Some more)
+        → Standing m Q left path₀ found₀ (c + 1) (count + more) path' (put_mid (count * length path₀) (length found - count * length path₀) found after)
+    branch_more after same-room more told =
+        let new : Written (length path₀) (take (length path₀ - left) path₀ ++ (c ∷ [])) free_below told.0 more after =
+        subst (λ (t : List ℕ). Written (length path₀) t free_below told.0 more after) chosen_front
+        (subst (λ (k : ℕ). Written k (take (length chosen - (left - 1)) chosen) free_below told.0 more after) chosen-length told.2) in
+        standing_more m Q left (omega (arith, tried.deep)) path₀ found₀ tried.fits c count path found tried.element tried.state told.0 more path' after
+        (continuations m laws Q Q' left c tried.roots told.0 told.1) path_length_below path_below same-room new
+
+    pub branch_over : (after : List ℕ) → Told m Q' (left - 1) (length chosen) (take (length chosen - (left - 1)) chosen) free_below after None
+        → TooMany m Q left (length path₀) found₀
+    branch_over after told =
+        standing_over m Q left (omega (arith, tried.deep)) path₀ found₀ tried.fits c count path found tried.element tried.state told.0
+        (alone_below m laws Q Q' left c tried.roots told.0 told.1) told.2
+        (subst (λ (k : ℕ). length free_below < length told.0 * k) chosen-length told.3)

@@ -2,6 +2,7 @@
 -- Assumes nothing.
 use Rattle.std.proofs.Common.{◌≡◌, ℕ, suc, ◌+◌, ◌*◌, ◌<◌, ◌≤◌, false, not, leb, List, length, take, Some, None, Option, sym, ap, ◌∙◌, subst, mul-one, mul-add, arith}
 use Rattle.std.proofs.lemmas.List.{take_all}
+use Rattle.std.proofs.lemmas.Option.{none-some}
 use Rattle.std.proofs.lemmas.Bool.{and_from, and_parts, not-false, leb-true, le-leb, ltb-false, le-ltb}
 use Rattle.field.specs.Meaning.{FieldMeaning, FieldLaws}
 use Rattle.bivariate.specs.Bivariate.{Elements, Zeros, Interpolates, points_from}
@@ -24,7 +25,7 @@ passed_within : (low x high : ℕ) → low ≤ x → x ≤ high → not (within 
 passed_within low x high l h = ap not (and_from _ _ (le-leb low x l) (le-leb x high h))
 
 pub never_both : (e : Fault) (r : Option Fault) → r ≡ None → r ≡ Some e → ⊥
-never_both e r p q = let k : None ≡ Some e = sym p ∙ q in let z : ◌≡◌ {A = ℕ} 0 1 = cc in omega arith
+never_both e r p q = none-some e (sym p ∙ q)
 
 pub record Accepted (m : FieldMeaning) (a : ℕ) (word : List ℕ) (r s : ℕ) : Type 0 where
   pub weight : 1 ≤ a

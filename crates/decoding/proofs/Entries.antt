@@ -7,7 +7,6 @@ use Rattle.std.specs.List.{IsSubsliceAt, slice_index_or}
 use Rattle.std.specs.Iterator.Runs.{Run, AllItems, AnyItem, IsChunksExactRun}
 use Rattle.std.proofs.Math.Nat.{mul-div_cancel}
 use Rattle.std.proofs.lemmas.Nat.{le-div}
-use Rattle.std.proofs.ByRecursion.{All-take, All-drop}
 use Rattle.field.specs.Meaning.{FieldMeaning, FieldLaws}
 use Rattle.field.specs.Polynomial.{value_at}
 use Rattle.bivariate.specs.Bivariate.{Elements, Root}
@@ -42,9 +41,6 @@ pub zero_answered : (m : FieldMeaning) (p q : List ℕ) (c : ℕ) (b : Bool) →
     → b ≡ option_eq eqb (value_answer m p c) (Some 0) → b ≡ eqb (value_at m q c) 0
 zero_answered m p q c b same h l e =
     e ∙ ap (λ (o : Option ℕ). option_eq eqb o (Some 0)) (ap (λ (k : List ℕ). value_answer m k c) same ∙ value_answered m q c h l)
-
-pub group-elements : (m : FieldMeaning) (w g : ℕ) (cs : List ℕ) → Elements m cs → Elements m (group w cs g)
-group-elements m w g cs h = All-take (λ x. x < m.size) w (drop (g * w) cs) (All-drop (λ x. x < m.size) (g * w) cs h)
 
 -- what `all` went over: the groups of a list
 module _ {S : Type 0} {steps : S → Option (Bor (List ℕ)) → S → Type 0} (p : Run steps) (any : Bor (List ℕ)) (w : ℕ) (cs : List ℕ) (groups : IsChunksExactRun p w cs)

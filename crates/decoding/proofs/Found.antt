@@ -1,52 +1,16 @@
--- What is known where the search does not refuse, and what then stands in the memory for the roots.
+-- What stands in the bytes for the roots after a search.
 -- Assumes nothing.
-use Rattle.std.proofs.Common.{◌≡◌, ℕ, suc, ◌+◌, ◌*◌, ◌<◌, ◌≤◌, leb, List, [], ◌∷◌, ◌++◌, length, get_or, take, drop, Some, None, Option, sym, refl, ap, ◌∙◌, subst, ap₂, mul-le-mul_right, suc-mul, arith}
+use Rattle.std.proofs.Common.{◌≡◌, ℕ, suc, ◌+◌, ◌*◌, ◌<◌, ◌≤◌, List, [], ◌∷◌, ◌++◌, length, get_or, take, drop, Some, None, Option, sym, refl, ap, ◌∙◌, subst, ap₂, mul-le-mul_right, suc-mul, arith}
 use Rattle.std.specs.Option.{IsSome}
 use Rattle.std.specs.List.{flat_map, AllByRecursion}
 use Rattle.std.proofs.ByRecursion.{All-weaker}
 use Rattle.std.proofs.lemmas.List.{take-take, take_at, drop_at, drop-take}
-use Rattle.std.proofs.lemmas.Bool.{not-false, and_parts, leb-true, ltb-false}
 use Rattle.field.specs.Meaning.{FieldMeaning, FieldLaws}
-use Rattle.bivariate.specs.Bivariate.{Elements, Zeros, Distinct}
-use Rattle.bivariate.specs.Terms.{term_count, most_y, polynomial}
-use Rattle.bivariate.specs.Values.{elements_only}
-use Rattle.bivariate.proofs.ElementTests.{elements_from}
-use Rattle.refusal.specs.Tables.{first_refusal}
-use Rattle.refusal.specs.Tables.{within}
-use Rattle.refusal.proofs.Rows.{no_row}
-use Rattle.decoding.specs.Decoding.{pieces, RootsFound, found_bytes, memory_bytes, root_rows}
+use Rattle.bivariate.specs.Bivariate.{Distinct}
+use Rattle.bivariate.specs.Terms.{most_y, polynomial}
+use Rattle.bivariate.proofs.Embedding.{get_or-element}
+use Rattle.decoding.specs.Decoding.{pieces, RootsFound, found_bytes}
 use Rattle.decoding.specs.Roots.{RootWith, TooMany, Told}
-use Rattle.decoding.proofs.Inputs.{not_zeros}
-
--- ---- what the tests leave
-
-pub record Accepted (m : FieldMeaning) (a d : ℕ) (cs : List ℕ) (r s : ℕ) : Type 0 where
-  pub weight : 1 ≤ a
-  pub light : a ≤ 255
-  pub degree : 1 ≤ d
-  pub small : d ≤ 257
-  pub terms : length cs ≤ term_count a d
-  pub room : found_bytes a d ≤ r
-  pub memory : memory_bytes a d ≤ s
-  pub elements : Elements m cs
-  pub nonzero : ¬ (Zeros cs)
-
-pub accepted : (m : FieldMeaning) (a d : ℕ) (cs : List ℕ) (room memory : ℕ) → first_refusal (root_rows m a d cs room memory) ≡ None → Accepted m a d cs room memory
-accepted m a d cs room memory h =
-    let rows = no_row (root_rows m a d cs room memory) h in
-    let range = and_parts (leb 1 a) (leb a 255) (not-false (within 1 a 255) rows.0) in
-    let bound = and_parts (leb 1 d) (leb d 257) (not-false (within 1 d 257) rows.1.0) in
-    record {
-      weight = leb-true 1 a range.0;
-      light = leb-true a 255 range.1;
-      degree = leb-true 1 d bound.0;
-      small = leb-true d 257 bound.1;
-      terms = ltb-false (term_count a d) (length cs) rows.1.1.0;
-      room = ltb-false room (found_bytes a d) rows.1.1.1.0;
-      memory = ltb-false memory (memory_bytes a d) rows.1.1.1.1.0;
-      elements = elements_from m cs (not-false (elements_only m cs) rows.1.1.1.1.1.0);
-      nonzero = not_zeros cs rows.1.1.1.1.1.1.0;
-    }
 
 -- ---- what was entered, taken apart
 
@@ -62,10 +26,6 @@ split_pieces k (f ∷ fs) l h e =
 
 module _ (m : FieldMeaning) (laws : FieldLaws m) (a d : ℕ) (cs found : List ℕ) (room : found_bytes a d ≤ length found)
     (few : (fs : List (List ℕ)) → AllByRecursion (RootWith m (polynomial a d cs) (suc a)) fs → Distinct fs → length fs ≤ most_y a d) where
-  below_size : (f : List ℕ) → Elements m f → get_or f 0 0 < m.size
-  below_size [] h = omega (arith, laws.size_low)
-  below_size (x ∷ f) h = h.0
-
   -- there is room for all
   pub never_full : TooMany m (polynomial a d cs) (suc a) (suc a) found → ⊥
   never_full (fs, roots, once, over) =
@@ -96,7 +56,7 @@ module _ (m : FieldMeaning) (laws : FieldLaws m) (a d : ℕ) (cs found : List �
     unfolding fs
     roots_found = subst (RootsFound m (polynomial a d cs) (suc a) (most_y a d)) (sym taken_apart) record {
       alone = alone;
-      complete = λ f r. told.1.complete f r (below_size f r.elements);
+      complete = λ f r. told.1.complete f r (get_or-element m laws f 0 r.elements);
       once = told.1.once;
       few = few told.0 alone told.1.once;
     }

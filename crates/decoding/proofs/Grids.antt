@@ -12,7 +12,8 @@ use Rattle.bivariate.specs.Bivariate.{Elements}
 use Rattle.bivariate.specs.Grid.{cell, group, shifted}
 use Rattle.bivariate.specs.Steps.{Divided}
 use Rattle.decoding.specs.Stages.{Spread}
-use Rattle.decoding.proofs.Shifts.{shifted-length, shifted-elements}
+use Rattle.bivariate.proofs.Embedding.{shifted-elements}
+use Rattle.decoding.proofs.Shifts.{shifted-length}
 
 -- the next row begins where this one ends
 pub next_row : (k g w : ℕ) → k < g → k * w + w ≤ g * w
@@ -95,7 +96,7 @@ module _ (m : FieldMeaning) (laws : FieldLaws m) (c w d g : ℕ) (element : c < 
       length_written w d g now R (same ∙ sized) row full ∙ same,
       All-append (λ x. x < m.size) (take (g * w) now) (R ++ drop (g * w + w - g * w) (drop (g * w) now)) (All-take (λ x. x < m.size) (g * w) now elements)
           (All-append (λ x. x < m.size) R (drop (g * w + w - g * w) (drop (g * w) now))
-          (subst (Elements m) (sym is) (shifted-elements m c laws element (take (g * w + w - g * w) (drop (g * w) now)) part_elements))
+          (subst (Elements m) (sym is) (shifted-elements m laws c (take (g * w + w - g * w) (drop (g * w) now)) element part_elements))
           (All-drop (λ x. x < m.size) (g * w + w - g * w) (drop (g * w) now) (All-drop (λ x. x < m.size) (g * w) now elements))),
       (λ k l. upto k l (ℕ_discrete k g)),
       (λ k l. group_kept w d g now R (same ∙ sized) row full k (λ e. absurd (omega arith)) ∙ left k (omega arith)),

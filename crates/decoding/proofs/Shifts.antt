@@ -7,6 +7,7 @@ use Rattle.std.proofs.lemmas.List.{ext_get_or, length-take-le, append_assoc, dro
 use Rattle.field.specs.Meaning.{FieldMeaning, FieldLaws}
 use Rattle.bivariate.specs.Bivariate.{Elements}
 use Rattle.bivariate.specs.Grid.{times_linear, shifted}
+use Rattle.bivariate.proofs.Embedding.{shifted-elements}
 
 module _ (m : FieldMeaning) (c : ℕ) where
   pub linear-length : (p : ℕ) (T : List ℕ) → length (times_linear m c p T) ≡ suc (length T)
@@ -28,10 +29,6 @@ module _ (m : FieldMeaning) (c : ℕ) where
       (length now ≡ length p)
       × ((k : ℕ) → k < i → get_or now k 0 ≡ m.sum (get_or p k 0) (m.product c (get_or p (k + 1) 0)))
       × ((k : ℕ) → i ≤ k → get_or now k 0 ≡ get_or p k 0)
-
-  whole : (p : List ℕ) → 0 < length p → p ≡ get_or p 0 0 ∷ drop 1 p
-  whole [] h = absurd (omega arith)
-  whole (x ∷ p) h = refl
 
   pub linear-all : (p now : List ℕ) (i : ℕ) → 0 < length p → i ≡ length p - 1 → LinearUpTo p i now → now ≡ times_linear m c (get_or p 0 0) (drop 1 p)
   linear-all [] now i h end done = absurd (omega arith)
@@ -58,14 +55,6 @@ module _ (m : FieldMeaning) (c : ℕ) where
   shifted-length (p ∷ P) = linear-length p (shifted m c P) ∙ ap suc (shifted-length P)
 
   module _ (laws : FieldLaws m) (element : c < m.size) where
-    linear-elements : (p : ℕ) (T : List ℕ) → p < m.size → Elements m T → Elements m (times_linear m c p T)
-    linear-elements p [] h k = (h, tt)
-    linear-elements p (t ∷ T) h k = (laws.sum_closed _ _ h (laws.product_closed _ _ element k.0), linear-elements t T k.0 k.1)
-
-    pub shifted-elements : (P : List ℕ) → Elements m P → Elements m (shifted m c P)
-    shifted-elements [] h = tt
-    shifted-elements (p ∷ P) h = linear-elements p (shifted m c P) h.0 (shifted-elements P h.1)
-
     module _ (P now : List ℕ) (i : ℕ) (elements : Elements m P) (above : 0 < i) (within : i ≤ length P)
         (is : now ≡ take i P ++ shifted m c (drop i P)) where
       split : now ≡ take (i - 1) P ++ (get_or P (i - 1) 0 ∷ shifted m c (drop i P))
@@ -82,4 +71,4 @@ module _ (m : FieldMeaning) (c : ℕ) where
       pub rest_elements : Elements m (take (length now - (i - 1)) (drop (i - 1) now))
       rest_elements =
           subst (Elements m) (sym rest_is)
-          (All-get_or (λ x. x < m.size) P (i - 1) 0 (omega arith) elements, shifted-elements (drop i P) (All-drop (λ x. x < m.size) i P elements))
+          (All-get_or (λ x. x < m.size) P (i - 1) 0 (omega arith) elements, shifted-elements m laws c (drop i P) element (All-drop (λ x. x < m.size) i P elements))

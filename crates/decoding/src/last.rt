@@ -8,7 +8,8 @@ use crate::stage::Stage;
 use bivariate::value_at;
 use field::Field;
 
-// Enters a polynomial where there is room, and answers None where there is not.
+// Enters a polynomial where there is room, and answers None where there is not: an Option, so that the caller can use `?`.
+// Tried: after a write through `room.get_mut(..k)?` it is not known what the room holds.
 fn enter(room: &mut [u8], f: &[u8]) -> Option<()>
     ensures same_length { length room.new ≡ length room.old }
     ensures entered { MatchOption result (length room.old < length f.now) (λ _. (length f.now ≤ length room.old) × (take (length f.now) room.new ≡ f.now) × (drop (length f.now) room.new ≡ drop (length f.now) room.old)) }
@@ -33,7 +34,8 @@ impl<'a, F: Field> Stage<'a, F> {
             .all(|group| value_at(self.field, group, c) == Some(0))
     }
 
-    // Finds the roots with one coefficient more than was chosen, which is the last one.
+    // Finds the roots with one coefficient more than was chosen, which is the last one: how many they are, or None where there
+    // is no room for all.
     pub(crate) fn last(&self, path: &mut [u8], found: &mut [u8]) -> Option<usize>
         requires some { 1 ≤ length path.old }
         ensures same_length { length found.new ≡ length found.old }

@@ -11,5 +11,5 @@ mod words;
 
 pub use bivariate::{agreement, coefficient_at, degree_bound, value_at};
 pub use interpolation::{Fault, interpolate};
-pub use roots::find_roots;
+pub use roots::{Room, find_roots, search_room};
 pub use words::{Listing, decode, root_bytes};

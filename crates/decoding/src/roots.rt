@@ -1,10 +1,10 @@
 // Finding all roots of a polynomial in x and y.
-ghost use Rattle.std.specs.Prelude.{◌≡◌, suc, ◌*◌, true, length, drop, is_err};
-ghost use Rattle.refusal.specs.Tables.{Answers};
+ghost use Rattle.std.specs.Prelude.{◌≡◌, suc, ◌*◌, true, false, ◌&&◌, length, drop, is_err, MatchOption};
+ghost use Rattle.refusal.specs.Tables.{Answers, within};
 ghost use Rattle.bivariate.specs.Terms.{most_y, polynomial};
-ghost use Rattle.decoding.specs.Decoding.{pieces, only_zeros, RootsFound, root_rows};
+ghost use Rattle.decoding.specs.Decoding.{pieces, only_zeros, found_bytes, memory_bytes, RootsFound, root_rows};
 
-use crate::search::Search;
+use crate::search::{Search, Subject};
 use bivariate::{Terms, first_stranger};
 use field::Field;
 use interpolation::Fault;
@@ -16,16 +16,39 @@ fn only_zeros(numbers: &[u8]) -> bool
     numbers.iter().all(|number| *number == 0)
 }
 
-// Refuses what has no roots to find.
-fn check<F: Field>(
-    field: &F,
+// How many bytes a search wants: those for what is found, and those of its memory.
+#[derive(Clone, Copy)]
+pub struct Room {
+    pub found: usize,
+    pub memory: usize,
+}
+
+// How many bytes `find_roots` wants for these a and d. None where a is not 1 to 255 or d is not 1 to 257.
+pub fn search_room(a: usize, d: usize) -> Option<Room>
+    ensures { MatchOption result ((within 1 a 255 && within 1 d 257) ≡ false) (λ r. ((within 1 a 255 && within 1 d 257) ≡ true) × (r.found ≡ found_bytes a d) × (r.memory ≡ memory_bytes a d)) }
+{
+    if !(1..=255).contains(&a) || !(1..=257).contains(&d) {
+        return None;
+    }
+    let search = Search {
+        terms: Terms { a, d },
+    };
+    Some(Room {
+        found: search.found_bytes(),
+        memory: search.memory_bytes(),
+    })
+}
+
+// Refuses what cannot be searched. `decode` has a table of its own, which names the sizes of a word.
+fn check<'a, F: Field>(
+    field: &'a F,
     a: usize,
     d: usize,
-    coefficients: &[u8],
+    coefficients: &'a [u8],
     room: usize,
     memory: usize,
-) -> Result<Search, Fault>
-    ensures { Answers result (root_rows (F.Field.meaning field.now) a d coefficients.now room memory) (λ s. (s.terms.a ≡ a) × (s.terms.d ≡ d)) }
+) -> Result<Subject<'a, F>, Fault>
+    ensures { Answers result (root_rows (F.Field.meaning field.now) a d coefficients.now room memory) (λ s. (s.field.now ≡ field.now) × (s.coefficients.now ≡ coefficients.now) × (s.search.terms.a ≡ a) × (s.search.terms.d ≡ d)) }
 {
     if !(1..=255).contains(&a) {
         return Err(Fault::DegreeOutOfRange(a));
@@ -51,12 +74,16 @@ fn check<F: Field>(
     if only_zeros(coefficients) {
         return Err(Fault::AllZero);
     }
-    Ok(search)
+    Ok(Subject {
+        field,
+        search,
+        coefficients,
+    })
 }
 
 // Finds every polynomial f of degree at most a with Q(x, f(x)) = 0, where Q has these coefficients in the order of its
-// terms x^g·y^j with g + a·j < d. They stand one behind the other in `found`, each with a + 1 coefficients, and are as many
-// as the call returns.
+// terms x^g·y^j with g + a·j < d. As no heap is used, they stand one behind the other in `found`, each with a + 1
+// coefficients, and are as many as the call returns.
 pub fn find_roots<F: Field>(
     field: &F,
     a: usize,
@@ -69,6 +96,6 @@ pub fn find_roots<F: Field>(
     ensures refused { is_err result ≡ true → (found.new ≡ found.old) × (memory.new ≡ memory.old) }
     ensures lengths { (length found.new ≡ length found.old) × (length memory.new ≡ length memory.old) }
 {
-    let search = check(field, a, d, coefficients, found.len(), memory.len())?;
-    Ok(search.run(field, coefficients, found, memory))
+    let subject = check(field, a, d, coefficients, found.len(), memory.len())?;
+    Ok(subject.run(found, memory))
 }

@@ -1,6 +1,6 @@
 // A search for the roots of a polynomial in x and y, in bytes that are handed in.
 ghost use Rattle.std.specs.Prelude.{◌≡◌, ℕ, suc, ◌+◌, ◌*◌, ◌<◌, ◌≤◌, length, drop};
-ghost use Rattle.bivariate.specs.Bivariate.{Elements, Zeros, coefficient};
+ghost use Rattle.bivariate.specs.Bivariate.{Elements, Elements-prop, Zeros, coefficient};
 ghost use Rattle.bivariate.specs.Grid.{cell};
 ghost use Rattle.bivariate.specs.Terms.{term_count, most_y, polynomial, degree_bound};
 ghost use Rattle.decoding.specs.Decoding.{pieces, found_bytes, memory_bytes, RootsFound};
@@ -51,50 +51,62 @@ impl Search {
         ensures { result ≡ memory_bytes self.terms.a self.terms.d }
     {
         let k = self.terms.a + 1;
-        k + k * (self.terms.d * (self.terms.most_y() + 1))
+        k + k * (self.terms.d * self.width())
+    }
+
+    // How many powers of y the polynomial can have.
+    fn width(self) -> usize
+        ensures { result ≡ suc (most_y self.terms.a self.terms.d) }
+    {
+        self.terms.most_y() + 1
     }
 
     // Lays the polynomial with these coefficients out in a grid.
-    fn lay_out(self, shape: Shape, coefficients: &[u8], cells: &mut [u8])
-        requires sized { length cells.old ≡ shape.d * shape.w }
+    fn lay_out(self, coefficients: &[u8], cells: &mut [u8])
+        requires sized { length cells.old ≡ self.terms.d * suc (most_y self.terms.a self.terms.d) }
         ensures same_length { length cells.new ≡ length cells.old }
-        ensures cells { (g j : ℕ) → g < shape.d → j < shape.w → cell shape.w cells.new g j ≡ coefficient (polynomial self.terms.a self.terms.d coefficients.now) g j }
+        ensures cells { (g j : ℕ) → g < self.terms.d → j < suc (most_y self.terms.a self.terms.d) → cell (suc (most_y self.terms.a self.terms.d)) cells.new g j ≡ coefficient (polynomial self.terms.a self.terms.d coefficients.now) g j }
     {
+        let w = self.width();
         for (k, cell) in cells.iter_mut().enumerate() {
-            *cell = self
-                .terms
-                .coefficient(coefficients, k / shape.w, k % shape.w);
+            *cell = self.terms.coefficient(coefficients, k / w, k % w);
         }
     }
+}
 
-    // Finds the roots of a polynomial that is not 0, where there is room for as many as there can be.
-    pub(crate) fn run<F: Field>(
-        self,
-        field: &F,
-        coefficients: &[u8],
-        found: &mut [u8],
-        memory: &mut [u8],
-    ) -> usize
-        requires terms { length coefficients.now ≤ term_count self.terms.a self.terms.d }
-        requires room { found_bytes self.terms.a self.terms.d ≤ length found.old }
-        requires memory { memory_bytes self.terms.a self.terms.d ≤ length memory.old }
-        requires elements { Elements (F.Field.meaning field.now) coefficients.now }
-        requires nonzero { ¬ (Zeros coefficients.now) }
+// A polynomial that can be searched: its coefficients are elements, are no more than its terms, and are not all 0.
+#[derive(Drop)]
+pub(crate) struct Subject<'a, F: Field> {
+    pub(crate) field: &'a F,
+    pub(crate) search: Search,
+    pub(crate) coefficients: &'a [u8],
+    ghost terms: { length coefficients.now ≤ term_count search.terms.a search.terms.d },
+    ghost elements: { Elements (F.Field.meaning field.now) coefficients.now } by { Elements-prop (F.Field.meaning field.now) coefficients.now },
+    ghost nonzero: { ¬ (Zeros coefficients.now) },
+}
+
+impl<'a, F: Field> Subject<'a, F> {
+    // Finds the roots, where there is room for as many as there can be. The room is asked for here, since the checker does not
+    // cover a ghost field beside a `&mut`.
+    pub(crate) fn run(&self, found: &mut [u8], memory: &mut [u8]) -> usize
+        requires room { found_bytes self.now.search.terms.a self.now.search.terms.d ≤ length found.old }
+        requires memory { memory_bytes self.now.search.terms.a self.now.search.terms.d ≤ length memory.old }
         ensures same_length { length found.new ≡ length found.old }
-        ensures roots { RootsFound (F.Field.meaning field.now) (polynomial self.terms.a self.terms.d coefficients.now) (suc self.terms.a) (most_y self.terms.a self.terms.d) (pieces (suc self.terms.a) result found.new) }
-        ensures beyond { drop (result * suc self.terms.a) found.new ≡ drop (result * suc self.terms.a) found.old }
+        ensures roots { RootsFound (F.Field.meaning self.now.field.now) (polynomial self.now.search.terms.a self.now.search.terms.d self.now.coefficients.now) (suc self.now.search.terms.a) (most_y self.now.search.terms.a self.now.search.terms.d) (pieces (suc self.now.search.terms.a) result found.new) }
+        ensures beyond { drop (result * suc self.now.search.terms.a) found.new ≡ drop (result * suc self.now.search.terms.a) found.old }
     {
-        let k = self.terms.a + 1;
+        let search = self.search;
+        let k = search.terms.a + 1;
         let shape = Shape {
-            w: self.terms.most_y() + 1,
-            d: self.terms.d,
+            w: search.width(),
+            d: search.terms.d,
         };
         let (path, stages) = memory.split_at_mut(k);
         let (cells, deeper) = stages.split_at_mut(shape.d * shape.w);
-        self.lay_out(shape, coefficients, cells);
+        search.lay_out(self.coefficients, cells);
         shape.divide(cells);
         let stage = Stage {
-            field,
+            field: self.field,
             shape,
             cells,
         };

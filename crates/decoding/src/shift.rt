@@ -15,7 +15,8 @@ pub(crate) struct Shift<'a, F: Field> {
 }
 
 impl<'a, F: Field> Shift<'a, F> {
-    // With p before and T after it, p + (y + c)·T.
+    // With p before and T after it, p + (y + c)·T. Its step, which takes elements alone, is private to interpolation too: a
+    // function for both crates would be public and have a requires.
     fn times_linear(&self, p: &mut [u8])
         requires some { 0 < length p.old }
         requires elements { Elements (F.Field.meaning self.now.field.now) p.old }

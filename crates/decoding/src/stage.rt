@@ -8,8 +8,9 @@ ghost use Rattle.decoding.specs.Stages.{Shifted, Spread, Indivisible};
 use crate::shift::Shift;
 use field::Field;
 
-// How many powers of y and of x there is room for. The numbers are handed to its methods beside it: a type that held them for
-// writing would owe in each method that its shape and its reference stay, two clauses for the one on the length.
+// How many powers of y and of x there is room for. The numbers are handed to its methods beside it: a type that held a `&mut` to
+// them could have no ghost field for their length, which the checker does not cover, and each method would also promise
+// that the type still lends the same slice.
 #[derive(Clone, Copy)]
 pub(crate) struct Shape {
     pub(crate) w: usize,

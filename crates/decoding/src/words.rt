@@ -11,7 +11,8 @@ use bivariate::first_stranger;
 use field::Field;
 use interpolation::{Fault, interpolate};
 
-// What decoding a word gives: how many positions are enough to be found, and how many polynomials were found.
+// What decoding a word gives: how many positions are enough to be found, and how many polynomials were found. As no heap is
+// used, these stand in bytes that are handed in, and their number is handed out.
 #[derive(Clone, Copy)]
 pub struct Listing {
     pub enough: usize,
@@ -31,7 +32,8 @@ pub fn root_bytes(a: usize, n: usize) -> Option<usize>
     Some(search.found_bytes() + search.memory_bytes())
 }
 
-// Refuses what cannot be decoded.
+// Refuses what cannot be decoded. `decode` checks before its calls, so that a refusal names its own sizes; they have other
+// tables of refusals and, being public, check again.
 fn check<F: Field>(
     field: &F,
     a: usize,
@@ -48,11 +50,11 @@ fn check<F: Field>(
     if n > field.size() as usize {
         return Err(Fault::WordTooLong(n));
     }
-    let search = Search::for_word(a, word.len());
-    if room < search.found_bytes() {
-        return Err(Fault::RoomTooShort(search.found_bytes()));
+    let wanted = Search::for_word(a, n);
+    if room < wanted.found_bytes() {
+        return Err(Fault::RoomTooShort(wanted.found_bytes()));
     }
-    let needed = (n + 1) * (n + 2) + search.memory_bytes();
+    let needed = (n + 1) * (n + 2) + wanted.memory_bytes();
     if memory < needed {
         return Err(Fault::MemoryTooShort(needed));
     }

@@ -6,4 +6,4 @@ use Rattle.decoding.proofs.search.Search.lay_out.Given as goal
 abbrev pub invariant-loop-k : goal.invariant-loop-k
 invariant-loop-k l =
     (length l.cells ≡ length l.initial.cells)
-    × ((t : ℕ) → t < l.k → get_or l.cells t 0 ≡ coefficient (polynomial l.self.terms.a l.self.terms.d l.coefficients) (t / l.shape.w) (t % l.shape.w))
+    × ((t : ℕ) → t < l.k → get_or l.cells t 0 ≡ coefficient (polynomial l.self.terms.a l.self.terms.d l.coefficients) (t / l.w) (t % l.w))

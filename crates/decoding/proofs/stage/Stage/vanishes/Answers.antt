@@ -5,7 +5,8 @@ use Rattle.std.specs.Iterator.Runs.{IsChunksExactRun}
 use Rattle.std.specs.Option.{option_eq}
 use Rattle.std.specs.Slice.Iter.{chunks_exact_size, chunks_exact_rest}
 use Rattle.bivariate.specs.Values.{value_answer}
-use Rattle.decoding.proofs.Entries.{zero_answered, group-elements, group-count, group_below, each_passed, some_passed, root_by_groups}
+use Rattle.bivariate.proofs.GridRoots.{group-elements}
+use Rattle.decoding.proofs.Entries.{zero_answered, group-count, group_below, each_passed, some_passed, root_by_groups}
 use Rattle.decoding.proofs.stage.Stage.vanishes.Goals as goal
 
 pub returns : goal.returns
@@ -28,12 +29,12 @@ returns g c =
           let h = each_passed p s.cells s.shape.w s.cells.now groups _ k.0 (k.1 (λ a r q t. search (rules, tests))) n
           (omega (arith, l, group-count s.shape.w s.shape.d s.cells.now s.shape.wide s.sized)) in
           let told : true ≡ option_eq eqb (value_answer m h.0.now c.args.c) (Some 0) = search (rules, tests) in
-          eqb-true _ _ (sym (zero_answered m _ _ c.args.c true h.1 (group-elements m s.shape.w n s.cells.now s.elements) c.requires.element told)));
+          eqb-true _ _ (sym (zero_answered m _ _ c.args.c true h.1 (group-elements m laws s.shape.w s.cells.now n s.elements) c.requires.element told)));
       no = λ e r.
           let k = MatchBool-at_false _ _ e run.2 in
           let h = some_passed p s.cells s.shape.w s.cells.now groups _ (k (λ a r q t. search (rules, tests))) in
           let told : false ≡ option_eq eqb (value_answer m h.2.now c.args.c) (Some 0) = search (rules, tests) in
-          eqb-false _ _ (sym (zero_answered m _ _ c.args.c false h.3 (group-elements m s.shape.w h.0 s.cells.now s.elements) c.requires.element told))
+          eqb-false _ _ (sym (zero_answered m _ _ c.args.c false h.3 (group-elements m laws s.shape.w s.cells.now h.0 s.elements) c.requires.element told))
           ((root_by_groups m laws s.shape.w s.shape.d c.args.c s.cells.now s.elements c.requires.element s.sized).0 r h.0
           (group_below s.shape.w s.shape.d h.0 s.cells.now s.shape.wide s.sized h.1));
     }
