@@ -1,4 +1,6 @@
-// A staircase of w vectors of w numbers, one behind the other. That they are so many is required of each call and in no struct:
+// A staircase of w vectors of w numbers, one behind the other. Vector t is alive while its own number, number t of it, is not 0:
+// it is 1 from the start and set to 0 when the vector is taken out, so that the w·w bytes hold also which vectors are left.
+// That they are so many is required of each call and in no struct:
 // the slice is written between the calls, and a ghost field beside a `&mut` is not covered by the check.
 ghost use Rattle.std.specs.Prelude.{◌≡◌, ℕ, ◌*◌, ◌<◌, length, IfSome, IfNone};
 ghost use Rattle.field.specs.Meaning.{FieldMeaning, FieldLaws};
