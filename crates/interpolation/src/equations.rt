@@ -16,7 +16,7 @@ fn add_multiple<F: Field>(field: &F, vector: &mut [u8], c: u8, other: &[u8])
     requires sized { length vector.old ≡ length other.now }
     ensures { vector.new ≡ plus (F.Field.meaning field.now) vector.old c other.now }
 {
-    // `other` by index: of what is written through `iter_mut().zip(..)` no proof knows the numbers
+    // tried `iter_mut().zip(other)`: in that loop no invariant can name the vector as it is written so far
     for (i, number) in vector.iter_mut().enumerate() {
         *number = plus_product(field, *number, c, other[i]);
     }
@@ -51,6 +51,7 @@ impl<'a, F: Field> Equation<'a, F> {
         ensures some { IfSome result (λ p. FirstFailing (F.Field.meaning self.now.field.now) (length self.now.coefficients.now) vectors.now self.now.coefficients.now p) }
         ensures none { IfNone result (Solves (F.Field.meaning self.now.field.now) (length self.now.coefficients.now) vectors.now self.now.coefficients.now) }
     {
+        // a `for` and no `position`, for the reason in `first_alive`
         for (t, vector) in vectors.chunks(self.coefficients.len()).enumerate() {
             if vector[t] != 0 && self.value(vector) != 0 {
                 return Some(t);

@@ -1,7 +1,8 @@
 // A staircase of w vectors of w numbers, one behind the other. Vector t is alive while its own number, number t of it, is not 0:
-// it is 1 from the start and set to 0 when the vector is taken out, so that the w·w bytes hold also which vectors are left.
-// That they are so many is required of each call and in no struct:
-// the slice is written between the calls, and a ghost field beside a `&mut` is not covered by the check.
+// it is 1 from the start and set to 0 to take the vector out, so that which are left stands within the w·w numbers themselves.
+// That they are so many is required of each call and in no struct. Where the slice is written, a struct round the `&mut` would
+// have to promise after each call that it still lends the same slice, one clause more than it saves; the functions that only
+// read are called once each, and a struct would be made for that one call.
 ghost use Rattle.std.specs.Prelude.{◌≡◌, ℕ, ◌*◌, ◌<◌, length, IfSome, IfNone};
 ghost use Rattle.field.specs.Meaning.{FieldMeaning, FieldLaws};
 ghost use Rattle.interpolation.specs.Staircase.{vector, Alive, alive_count, Staircase};
@@ -35,6 +36,7 @@ pub(crate) fn first_alive(w: usize, vectors: &[u8]) -> Option<&[u8]>
     ensures alive { IfSome result (λ v. (t : ℕ) × (t < w) × Alive w vectors.now t × (v.now ≡ vector w vectors.now t)) }
     ensures none { IfNone result (alive_count w vectors.now w ≡ 0) }
 {
+    // tried `find`: its closure needs t < w for `vector[t]`, and the library has no lemma that tells the items of `chunks`
     for (t, vector) in vectors.chunks(w).enumerate() {
         if vector[t] != 0 {
             return Some(vector);

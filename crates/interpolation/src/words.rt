@@ -51,7 +51,8 @@ struct Word<'a, F: Field> {
 }
 
 impl<'a, F: Field> Word<'a, F> {
-    // Imposes the points of the word, one position after another.
+    // Imposes the points of the word, one position after another. The length of `equation`, which is written, stands in the
+    // contract as in that of a point.
     fn impose(&self, terms: Terms, equation: &mut [u8], vectors: &mut [u8])
         requires wide { 0 < length equation.old }
         requires room { length equation.old ≤ term_count terms.a terms.d }
