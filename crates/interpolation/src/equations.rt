@@ -51,7 +51,6 @@ impl<'a, F: Field> Equation<'a, F> {
         ensures some { IfSome result (λ p. FirstFailing (F.Field.meaning self.now.field.now) (length self.now.coefficients.now) vectors.now self.now.coefficients.now p) }
         ensures none { IfNone result (Solves (F.Field.meaning self.now.field.now) (length self.now.coefficients.now) vectors.now self.now.coefficients.now) }
     {
-        // a `for` and no `position`, for the reason in `first_alive`
         for (t, vector) in vectors.chunks(self.coefficients.len()).enumerate() {
             if vector[t] != 0 && self.value(vector) != 0 {
                 return Some(t);

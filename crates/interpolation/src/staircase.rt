@@ -36,11 +36,6 @@ pub(crate) fn first_alive(w: usize, vectors: &[u8]) -> Option<&[u8]>
     ensures alive { IfSome result (λ v. (t : ℕ) × (t < w) × Alive w vectors.now t × (v.now ≡ vector w vectors.now t)) }
     ensures none { IfNone result (alive_count w vectors.now w ≡ 0) }
 {
-    // tried `find`: its closure needs t < w for `vector[t]`, and the library has no lemma that tells the items of `chunks`
-    for (t, vector) in vectors.chunks(w).enumerate() {
-        if vector[t] != 0 {
-            return Some(vector);
-        }
-    }
-    None
+    let t = (0..w).find(|t| vectors[t * w + t] != 0)?;
+    Some(vector(w, vectors, t))
 }
