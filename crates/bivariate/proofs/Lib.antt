@@ -13,4 +13,3 @@ pub mod GridRoots
 pub mod ForcedRoots
 pub mod AgreementSteps
 pub mod CoefficientSteps
-pub mod WrittenFronts

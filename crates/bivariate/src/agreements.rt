@@ -19,11 +19,10 @@ pub fn agreement<F: Field>(field: &F, word: &[u8], coefficients: &[u8]) -> Optio
     if !elements_only(field, word) || !elements_only(field, coefficients) {
         return None;
     }
-    let mut count = 0;
-    for (i, number) in word.iter().enumerate() {
-        if value_at(field, coefficients, i as u8)? == *number {
-            count += 1;
-        }
-    }
+    let count = word
+        .iter()
+        .enumerate()
+        .filter(|&(i, number)| value_at(field, coefficients, i as u8) == Some(*number))
+        .count();
     Some(count)
 }

@@ -13,7 +13,7 @@ pub fn degree_bound(a: usize, n: u32) -> Option<usize>
     }
     let mut d = 0usize;
     let mut count = 0usize;
-    // no plainer as a `for`: d is what is sought, and a range of it would need an end that it never reaches
+    // no plainer as a `for` over `0..`: code behind that would have to give an answer that is never given
     while count <= n as usize {
         // one more x for each j with a·j up to d
         count += d / a + 1;
@@ -43,7 +43,7 @@ impl Terms {
         Some(Terms { a, d })
     }
 
-    // The least d with more than n terms, or None where a is 0.
+    // The terms of the least d that has more than n of them, or None where a is 0.
     pub fn exceeding(a: usize, n: u32) -> Option<Terms>
         ensures exist { IsSome result ↔ (1 ≤ a) }
         ensures terms { IfSome result (λ t. (t.a ≡ a) × (t.d ≡ degree_bound a n)) }

@@ -1,13 +1,11 @@
 -- What is known where no row of the table of faults holds.
 -- Assumes nothing.
-use Rattle.std.proofs.Common.{◌≡◌, ℕ, ◌+◌, ◌*◌, ◌≤◌, cond, eqb, leb, List, length, Some, None, Option, unwrap_or, sym, ap, ◌∙◌, subst, arith}
-use Rattle.std.proofs.lemmas.Bool.{not-false, and_parts, leb-true, ltb-false, ne_eqb, cond-false}
+use Rattle.std.proofs.Common.{◌≡◌, ℕ, ◌+◌, ◌*◌, ◌≤◌, leb, List, length, None}
+use Rattle.std.proofs.lemmas.Bool.{not-false, and_parts, leb-true, ltb-false}
 use Rattle.field.specs.Meaning.{FieldMeaning}
 use Rattle.bivariate.specs.Bivariate.{Elements}
-use Rattle.bivariate.specs.Terms.{degree_bound}
 use Rattle.bivariate.specs.Values.{elements_only}
 use Rattle.bivariate.proofs.ElementTests.{elements_from}
-use Rattle.bivariate.proofs.Degrees.{degree_bound_low}
 use Rattle.refusal.specs.Tables.{first_refusal}
 use Rattle.refusal.specs.Tables.{within}
 use Rattle.refusal.proofs.Rows.{no_row}
@@ -33,13 +31,3 @@ accepted m a word room memory h =
       memory = ltb-false memory ((length word + 1) * (length word + 1)) rows.1.1.1.0;
       elements = elements_from m word (not-false (elements_only m word) rows.1.1.1.1.0);
     }
-
--- ---- the bound on degrees
-
-module _ (a n d : ℕ) (o : Option ℕ) (weight : 1 ≤ a) (answer : o ≡ cond (eqb a 0) None (Some (degree_bound a n))) (value : d ≡ unwrap_or o 0) where
-  pub bound_is : d ≡ degree_bound a n
-  bound_is =
-      value ∙ ap (λ (p : Option ℕ). unwrap_or p 0) (answer ∙ cond-false (eqb a 0) None (Some (degree_bound a n)) (ne_eqb a 0 (λ e. omega arith)))
-
-  pub bound_low : 1 ≤ d
-  bound_low = subst (λ (e : ℕ). 1 ≤ e) (sym bound_is) (degree_bound_low a n weight)

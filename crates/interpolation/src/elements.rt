@@ -1,5 +1,5 @@
-// Operations on the elements of a field, which have an answer there. That a number is one is required of it and no type of its
-// own, for the numbers stand in slices of bytes, of which the fact is known as a whole.
+// Operations on the elements of a field, which have an answer there. An element has no type of its own: it is a byte of a slice,
+// and a slice of bytes cannot carry a type for each, so that each number is required to be one.
 ghost use Rattle.std.specs.Prelude.{◌≡◌, ◌<◌};
 
 use bivariate::multiply_add;

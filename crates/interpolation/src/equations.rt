@@ -16,7 +16,7 @@ fn add_multiple<F: Field>(field: &F, vector: &mut [u8], c: u8, other: &[u8])
     requires sized { length vector.old ≡ length other.now }
     ensures { vector.new ≡ plus (F.Field.meaning field.now) vector.old c other.now }
 {
-    // `other` by index: of what is written through `iter_mut().zip(..)` no proof knows the numbers
+    // tried `iter_mut().zip(other)`: in that loop no invariant can name the vector as it is written so far
     for (i, number) in vector.iter_mut().enumerate() {
         *number = plus_product(field, *number, c, other[i]);
     }

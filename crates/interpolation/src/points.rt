@@ -30,6 +30,7 @@ impl<'a, F: Field> Point<'a, F> {
         let mut first = 1u8;
         let mut width = terms.d;
         let mut left = terms.d;
+        // no plainer row by row: each power of y has a terms fewer than the one before, so that no size of chunks names the rows
         for place in out.iter_mut() {
             *place = value;
             left -= 1;
@@ -45,7 +46,8 @@ impl<'a, F: Field> Point<'a, F> {
         }
     }
 
-    // Makes the polynomial of each vector that is alive 0 at the point too. What `equation` holds before does not matter.
+    // Makes the polynomial of each vector that is alive 0 at the point too. What `equation` holds before does not matter. It is
+    // written, so that its length stands in each contract: a ghost field beside a `&mut` is not covered by the check.
     pub(crate) fn impose(&self, terms: Terms, equation: &mut [u8], vectors: &mut [u8])
         requires wide { 0 < length equation.old }
         requires room { length equation.old ≤ term_count terms.a terms.d }

@@ -1,5 +1,8 @@
-// A staircase of w vectors of w numbers, one behind the other. That they are so many is required of each call and in no struct:
-// the slice is written between the calls, and a ghost field beside a `&mut` is not covered by the check.
+// A staircase of w vectors of w numbers, one behind the other. Vector t is alive while its own number, number t of it, is not 0:
+// it is 1 from the start and set to 0 to take the vector out, so that which are left stands within the w·w numbers themselves.
+// That they are so many is required of each call and in no struct. Where the slice is written, a struct round the `&mut` would
+// have to promise after each call that it still lends the same slice, one clause more than it saves; for the functions that only
+// read, a struct would have to be made anew at each call, since the slice is written between them.
 ghost use Rattle.std.specs.Prelude.{◌≡◌, ℕ, ◌*◌, ◌<◌, length, IfSome, IfNone};
 ghost use Rattle.field.specs.Meaning.{FieldMeaning, FieldLaws};
 ghost use Rattle.interpolation.specs.Staircase.{vector, Alive, alive_count, Staircase};
@@ -33,10 +36,6 @@ pub(crate) fn first_alive(w: usize, vectors: &[u8]) -> Option<&[u8]>
     ensures alive { IfSome result (λ v. (t : ℕ) × (t < w) × Alive w vectors.now t × (v.now ≡ vector w vectors.now t)) }
     ensures none { IfNone result (alive_count w vectors.now w ≡ 0) }
 {
-    for (t, vector) in vectors.chunks(w).enumerate() {
-        if vector[t] != 0 {
-            return Some(vector);
-        }
-    }
-    None
+    let t = (0..w).find(|t| vectors[t * w + t] != 0)?;
+    Some(vector(w, vectors, t))
 }

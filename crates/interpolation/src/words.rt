@@ -22,7 +22,7 @@ fn check<F: Field>(
 ) -> Result<(), Fault>
     ensures { Answers result (interpolation_rows (F.Field.meaning field.now) a word.now room memory) (λ _. Unit {0}) }
 {
-    if a < 1 || a > 255 {
+    if !(1..=255).contains(&a) {
         return Err(Fault::DegreeOutOfRange(a));
     }
     if word.len() > field.size() as usize {
@@ -51,7 +51,8 @@ struct Word<'a, F: Field> {
 }
 
 impl<'a, F: Field> Word<'a, F> {
-    // Imposes the points of the word, one position after another.
+    // Imposes the points of the word, one position after another. The length of `equation`, which is written, stands in the
+    // contract as in that of a point.
     fn impose(&self, terms: Terms, equation: &mut [u8], vectors: &mut [u8])
         requires wide { 0 < length equation.old }
         requires room { length equation.old ≤ term_count terms.a terms.d }
@@ -68,7 +69,7 @@ impl<'a, F: Field> Word<'a, F> {
         }
     }
 
-    // Writes a polynomial that is 0 at the points of the word, given memory for as many vectors as it has coefficients.
+    // Writes a polynomial, not 0 itself, that is 0 at the points of the word, given memory for as many vectors as it has coefficients.
     fn interpolate(&self, terms: Terms, out: &mut [u8], vectors: &mut [u8])
         requires terms { length self.now.numbers.now < term_count terms.a terms.d }
         requires room { length out.old ≡ length self.now.numbers.now + 1 }
