@@ -1,11 +1,12 @@
 // The bound on weighted degrees.
+// Each sum and product is proved not to wrap. A test has no bound to prove it from, so they saturate.
 use decoding::degree_bound;
 use std::test::Fail;
 
 // How many terms x^g·y^j have g + a·j < d, counted j by j.
 fn terms_below(a: usize, d: usize) -> usize {
     (0..d).fold(0usize, |count, j| {
-        count.wrapping_add(d.saturating_sub(a.wrapping_mul(j)))
+        count.saturating_add(d.saturating_sub(a.saturating_mul(j)))
     })
 }
 

@@ -18,7 +18,8 @@ mod subjects;
 #[cfg(test)]
 mod words;
 
-// Numbers that look random, from a linear congruence: the words of the tests are the same in every run.
+// Numbers that look random, from a linear congruence modulo 2^64, which is meant to wrap: the words of the tests are
+// the same in every run.
 #[derive(Drop)]
 pub(crate) struct Random(pub(crate) u64);
 

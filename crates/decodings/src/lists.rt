@@ -1,4 +1,5 @@
 // What is found over GF(16), against the list of all polynomials, and the roots of polynomials that the tests write down.
+// Each sum and product is proved not to wrap. A test has no bound to prove it from, so they saturate.
 use crate::Random;
 use crate::polynomials::Polynomial;
 use crate::subjects::Subject;
@@ -36,11 +37,10 @@ fn full_lists(
     users: &[u64],
 ) -> Result<(), Fail> {
     let mut random = Random(16);
-    let mut word = [0; 16];
     for count in 1..=users.len() {
-        subject.mixed_word(&users[..count], &mut word);
+        let word = subject.mixed_word(rt.alloc(), &users[..count])?;
         full_list(rt, subject, &word, if count <= 2 { count } else { 0 })?;
-        random_word(16, &mut random, &mut word);
+        let word = random_word(rt.alloc(), 16, &mut random, 16)?;
         full_list(rt, subject, &word, 0)?;
     }
     Ok(())
@@ -64,23 +64,22 @@ type Written = (usize, &'static [u8], &'static [u64]);
 // The numbers of the users whose polynomials are found as roots.
 fn found_numbers(
     rt: &(impl Abort + AllocGlobal),
-    a: usize,
-    bound: usize,
-    terms: &[u8],
+    polynomial: &Polynomial<Gf16>,
 ) -> Result<Vec<u64>, Fail> {
-    let polynomial = Polynomial {
-        field: &Gf16,
-        a,
-        bound,
-        terms,
-    };
     let found = polynomial.roots(rt)?;
-    Ok(numbers_of(rt.alloc(), 16, a.wrapping_add(1), &found)?)
+    let k = polynomial.a.saturating_add(1);
+    Ok(numbers_of(rt.alloc(), 16, k, &found)?)
 }
 
 fn written_roots(rt: &(impl Abort + AllocGlobal), a: usize, cases: &[Written]) -> Result<(), Fail> {
     for (bound, terms, expected) in cases {
-        let numbers = found_numbers(rt, a, *bound, terms)?;
+        let polynomial = Polynomial {
+            field: &Gf16,
+            a,
+            bound: *bound,
+            terms,
+        };
+        let numbers = found_numbers(rt, &polynomial)?;
         assert!(rt; numbers.as_slice() == *expected, "bound {bound}");
     }
     Ok(())
@@ -119,16 +118,28 @@ fn most_roots(rt: HostRuntime) -> Result<(), Fail> {
     let mut terms = [0; 136];
     terms[0] = 1;
     terms[135] = 1;
+    let all_but_0 = Polynomial {
+        field: &Gf16,
+        a: 1,
+        bound: 16,
+        terms: &terms,
+    };
     assert_eq!(rt;
-        found_numbers(&rt, 1, 16, &terms)?.as_slice(),
+        found_numbers(&rt, &all_but_0)?.as_slice(),
         [1, 2, 3, 4, 5, 6, 7, 8, 9, 10, 11, 12, 13, 14, 15].as_slice()
     );
     // y^16 + y, which is 0 at every element with the values of any polynomial
     let mut terms = [0; 153];
     terms[17] = 1;
     terms[152] = 1;
+    let all = Polynomial {
+        field: &Gf16,
+        a: 1,
+        bound: 17,
+        terms: &terms,
+    };
     assert_eq!(rt;
-        found_numbers(&rt, 1, 17, &terms)?.as_slice(),
+        found_numbers(&rt, &all)?.as_slice(),
         [0, 1, 2, 3, 4, 5, 6, 7, 8, 9, 10, 11, 12, 13, 14, 15].as_slice()
     );
     Ok(())

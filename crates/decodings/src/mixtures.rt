@@ -1,4 +1,5 @@
 // Words of random numbers, and words mixed in turn from the tables of 1 to 6 users.
+// Each divisor is proved not to be 0. A test has no bound to prove it from, so it is at least 1.
 use crate::Random;
 use crate::subjects::Subject;
 use crate::words::{Decoded, number_of, random_word};
@@ -47,65 +48,70 @@ fn mixtures<F: Field>(
     rt: &(impl Abort + AllocGlobal),
     subject: &Subject<F>,
     most: usize,
-    word: &mut [u8],
 ) -> Result<(), Fail> {
     let users = SEEDS.map(|seed| seed % subject.code.users().max(1));
     for count in 1..=users.len() {
         let mixed = &users[..count];
-        subject.mixed_word(mixed, word);
-        let found = found_users(rt, subject, word, mixed)?;
+        let word = subject.mixed_word(rt.alloc(), mixed)?;
+        let found = found_users(rt, subject, &word, mixed)?;
         // each user has 0 positions and more
-        assert!(rt; count > most || subject.complete(0, &found, word, mixed));
+        assert!(rt; count > most || subject.complete(0, &found, &word, mixed));
     }
     Ok(())
 }
 
 // Words of random numbers, each half as long as the one before.
-fn randoms<F: Field>(
-    rt: &(impl Abort + AllocGlobal),
-    subject: &Subject<F>,
-    word: &mut [u8],
-) -> Result<(), Fail> {
-    random_word(subject.field.size(), &mut Random(subject.k as u64), word);
+fn randoms<F: Field>(rt: &(impl Abort + AllocGlobal), subject: &Subject<F>) -> Result<(), Fail> {
+    let mut random = Random(subject.k as u64);
+    let word = random_word(
+        rt.alloc(),
+        subject.field.size(),
+        &mut random,
+        subject.code.length(),
+    )?;
     for halvings in 0..4u32 {
         found_users(rt, subject, &word[..word.len() >> halvings], &[])?;
     }
     Ok(())
 }
 
-// Decodes words as long as this one, over a field.
+// Decodes words with as many numbers as the field has elements.
 fn words<F: Field + Copy + Drop>(
     rt: &(impl Abort + AllocGlobal),
     field: F,
     k: usize,
     most: usize,
-    word: &mut [u8],
 ) -> Result<(), Fail> {
-    let subject = Subject::new(field, word.len(), k)?;
-    mixtures(rt, &subject, most, word)?;
-    randoms(rt, &subject, word)
+    let subject = Subject::new(field, field.size() as usize, k)?;
+    mixtures(rt, &subject, most)?;
+    randoms(rt, &subject)
+}
+
+// The words of a large field, of users with 2 to 4 coefficients.
+fn large_words<F: Field + Copy + Drop>(
+    rt: &(impl Abort + AllocGlobal),
+    field: F,
+) -> Result<(), Fail> {
+    for k in 2..5usize {
+        words(rt, field, k, 6)?;
+    }
+    Ok(())
 }
 
 #[test]
 fn words_256(rt: HostRuntime) -> Result<(), Fail> {
-    for k in 2..5usize {
-        words(&rt, Gf256, k, 6, &mut [0; 256])?;
-    }
-    Ok(())
+    large_words(&rt, Gf256)
 }
 
 #[test]
 fn words_251(rt: HostRuntime) -> Result<(), Fail> {
-    for k in 2..5usize {
-        words(&rt, Mod251, k, 6, &mut [0; 251])?;
-    }
-    Ok(())
+    large_words(&rt, Mod251)
 }
 
 #[test]
 fn words_16(rt: HostRuntime) -> Result<(), Fail> {
     for (k, most) in [(2, 2), (3, 2), (4, 1)] {
-        words(&rt, Gf16, k, most, &mut [0; 16])?;
+        words(&rt, Gf16, k, most)?;
     }
     Ok(())
 }

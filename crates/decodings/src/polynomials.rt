@@ -1,4 +1,6 @@
 // Polynomials in x and y, and an evaluation of them that is the tests' own.
+// Each sum and product is proved not to wrap, and each divisor not to be 0. A test has no bound to prove it from, so they
+// saturate, and a divisor is at least 1.
 use code::Code;
 use decoding::find_roots;
 use field::Field;
@@ -57,10 +59,10 @@ impl<F: Field> Polynomial<'_, F> {
     // The roots that are found, one behind the other, given no byte more than they want.
     pub(crate) fn roots(&self, rt: &(impl Abort + AllocGlobal)) -> Result<Vec<u8>, Fail> {
         let most = self.bound.saturating_sub(1) / self.a.max(1);
-        let k = self.a.wrapping_add(1);
-        let grids = k.wrapping_mul(self.bound.wrapping_mul(most.wrapping_add(1)));
-        let mut found = vec![in rt.alloc(); 0u8; most.wrapping_mul(k)]?;
-        let mut memory = vec![in rt.alloc(); 0u8; k.wrapping_add(grids)]?;
+        let k = self.a.saturating_add(1);
+        let grids = k.saturating_mul(self.bound.saturating_mul(most.saturating_add(1)));
+        let mut found = vec![in rt.alloc(); 0u8; most.saturating_mul(k)]?;
+        let mut memory = vec![in rt.alloc(); 0u8; k.saturating_add(grids)]?;
         let count = find_roots(
             self.field,
             self.a,
@@ -70,7 +72,7 @@ impl<F: Field> Polynomial<'_, F> {
             &mut memory,
         )?;
         assert!(rt; count <= most);
-        found.truncate(count.wrapping_mul(k));
+        found.truncate(count.saturating_mul(k));
         Ok(found)
     }
 }

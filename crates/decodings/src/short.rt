@@ -1,4 +1,5 @@
 // The shortest words, words that are tables of the greatest degree, and questions about values.
+// Each sum and product is proved not to wrap. A test has no bound to prove it from, so they saturate.
 use crate::Random;
 use crate::words::{decode, random_word};
 use decoding::{agreement, coefficient_at, value_at};
@@ -14,7 +15,7 @@ fn none_found<F: Field>(
 ) -> Result<(), Fail> {
     for a in 1..6usize {
         let decoded = decode(rt, field, a, word)?;
-        assert_eq!(rt; decoded.bound, word.len().wrapping_add(1));
+        assert_eq!(rt; decoded.bound, word.len().saturating_add(1));
         assert_eq!(rt; decoded.found.len(), 0);
         assert_ne!(rt; decoded.terms.last(), Some(&0));
     }
@@ -45,23 +46,20 @@ fn two_numbers(rt: HostRuntime) -> Result<(), Fail> {
 }
 
 // Any word with as many numbers as there are elements is the table of one polynomial of the greatest degree, which is found.
-fn whole_table<F: Field>(
-    rt: &(impl Abort + AllocGlobal),
-    field: &F,
-    word: &mut [u8],
-) -> Result<(), Fail> {
-    random_word(field.size(), &mut Random(1), word);
-    let decoded = decode(rt, field, word.len().saturating_sub(1), word)?;
-    assert_eq!(rt; decoded.found.len(), word.len());
-    assert_eq!(rt; agreement(field, word, &decoded.found), Some(word.len()));
+fn whole_table<F: Field>(rt: &(impl Abort + AllocGlobal), field: &F) -> Result<(), Fail> {
+    let length = field.size() as usize;
+    let word = random_word(rt.alloc(), field.size(), &mut Random(1), length)?;
+    let decoded = decode(rt, field, length.saturating_sub(1), &word)?;
+    assert_eq!(rt; decoded.found.len(), length);
+    assert_eq!(rt; agreement(field, &word, &decoded.found), Some(length));
     Ok(())
 }
 
 #[test]
 fn whole_tables(rt: HostRuntime) -> Result<(), Fail> {
-    whole_table(&rt, &Gf256, &mut [0; 256])?;
-    whole_table(&rt, &Mod251, &mut [0; 251])?;
-    whole_table(&rt, &Gf16, &mut [0; 16])
+    whole_table(&rt, &Gf256)?;
+    whole_table(&rt, &Mod251)?;
+    whole_table(&rt, &Gf16)
 }
 
 #[test]

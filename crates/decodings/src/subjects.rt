@@ -1,4 +1,5 @@
 // Codes whose words the tests decode.
+// Each difference is proved not to wrap. A test has no bound to prove it from, so it saturates.
 use crate::words::{Decoded, decode, numbers_of};
 use code::Code;
 use field::Field;
@@ -24,11 +25,13 @@ impl<F: Field + Copy + Drop> Subject<F> {
 }
 
 impl<F: Field> Subject<F> {
-    // Writes a word that takes its positions from the tables of these users in turn.
-    pub(crate) fn mixed_word(&self, users: &[u64], word: &mut [u8]) {
-        for ((i, number), user) in word.iter_mut().enumerate().zip(users.iter().cycle()) {
-            *number = self.code.symbol(*user, i).unwrap_or(0);
-        }
+    // A word that takes its positions from the tables of these users in turn.
+    // The programs make theirs themselves: library crates have no heap, and the tests rest on no program.
+    pub(crate) fn mixed_word(&self, heap: Global, users: &[u64]) -> Result<Vec<u8>, AllocError> {
+        (0..self.code.length())
+            .zip(users.iter().cycle())
+            .filter_map(|(i, user)| self.code.symbol(*user, i))
+            .collect(heap)
     }
 
     // In how many positions the word is the user's table.

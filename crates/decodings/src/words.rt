@@ -1,4 +1,6 @@
 // What the tests share: words, their decoding, and the users of polynomials.
+// Each sum and product is proved not to wrap, and each divisor not to be 0. A test has no bound to prove it from, so they
+// saturate, and a divisor is at least 1.
 use crate::Random;
 use crate::polynomials::Polynomial;
 use decoding::interpolate;
@@ -7,9 +9,16 @@ use std::alloc::{AllocError, Global};
 use std::process::Abort;
 use std::test::Fail;
 
-// Writes a word of random elements.
-pub(crate) fn random_word(size: u16, random: &mut Random, word: &mut [u8]) {
-    word.fill_with(|| (random.next() % size.max(1) as u64 & 0xff) as u8);
+// A word of random elements.
+pub(crate) fn random_word(
+    heap: Global,
+    size: u16,
+    random: &mut Random,
+    length: usize,
+) -> Result<Vec<u8>, AllocError> {
+    let mut word = vec![in heap; 0u8; length]?;
+    word.fill_with(|| (random.next() % u64::from(size.max(1)) & 0xff) as u8);
+    Ok(word)
 }
 
 // What came of a word: the bound, the coefficients of Q, and the found polynomials, one behind the other.
@@ -39,24 +48,30 @@ pub(crate) fn decode<F: Field>(
     a: usize,
     word: &[u8],
 ) -> Result<Decoded, Fail> {
-    let w = word.len().wrapping_add(1);
+    let w = word.len().saturating_add(1);
     let mut terms = vec![in rt.alloc(); 0u8; w]?;
-    let mut memory = vec![in rt.alloc(); 0u8; w.wrapping_mul(w)]?;
+    let mut memory = vec![in rt.alloc(); 0u8; w.saturating_mul(w)]?;
     let bound = interpolate(field, a, word, &mut terms, &mut memory)?;
-    let mut decoded = Decoded {
+    let polynomial = Polynomial {
+        field,
+        a,
+        bound,
+        terms: &terms,
+    };
+    let found = polynomial.roots(rt)?;
+    Ok(Decoded {
         a,
         bound,
         terms,
-        found: Vec::new(rt.alloc()),
-    };
-    decoded.found = decoded.polynomial(field).roots(rt)?;
-    Ok(decoded)
+        found,
+    })
 }
 
-// The number of the user with this polynomial.
+// The number of the user with this polynomial: a fold that is the tests' own, as the program that prints tables has another.
 pub(crate) fn number_of(size: u16, f: &[u8]) -> u64 {
     f.iter().rev().fold(0u64, |user, c| {
-        user.wrapping_mul(size as u64).wrapping_add(*c as u64)
+        user.saturating_mul(u64::from(size))
+            .saturating_add(u64::from(*c))
     })
 }
 

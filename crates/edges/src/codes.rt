@@ -1,6 +1,6 @@
 // Making codes, and asking them, at the edges of their ranges.
 use crate::Two;
-use code::{Code, Concatenation, shared_positions};
+use code::{Code, Concatenation, Lone, shared_positions};
 use field::{Field, Gf16, Gf256, Mod251};
 use reed_solomon::{DoublyExtended, Plain};
 use refusal::{Layer, Refusal};
@@ -214,6 +214,18 @@ fn concatenated_symbols(rt: HostRuntime) -> Result<(), Fail> {
     ];
     symbols(&rt, code, &cases);
     Ok(())
+}
+
+// The least code has one user and one position, so that as an inner code it has too few users for any outer code.
+#[test]
+fn lone(rt: HostRuntime) {
+    assert_eq!(rt; numbers_of(Ok(Lone)), Ok(Numbers(1, 1, 2, 0)));
+    let cases = [At(0, 0, Some(0)), At(1, 0, None), At(0, 1, None)];
+    symbols(&rt, Lone, &cases);
+    assert_eq!(rt;
+        joined(Plain::new(Two, 2, 2), Ok(Lone)),
+        Err(Refusal::InnerUsersTooFew(1))
+    );
 }
 
 // What a refusal tells: number, place, layer.

@@ -13,7 +13,9 @@ mod codes;
 #[cfg(test)]
 mod fields;
 
-// The field of two elements: a smaller alphabet than that of any other, so that an inner code can have too few users.
+// The least field there is, of two elements: a smaller alphabet than that of any other, so that an inner code can have too few
+// users.
+// It is written out here since its product and inverse need no table and no loop, as those of the larger fields do.
 #[derive(Clone, Copy)]
 pub struct Two;
 

@@ -5,12 +5,16 @@ use crate::report::{print_code, print_word};
 use crate::request::{NamedWord, PlainName};
 use crate::stop::Stop;
 use crate::word::word_named;
+use bivariate::Terms;
 use code::Code;
-use decoding::{Fault, agreement, coefficient_at, find_roots, interpolate};
+use decoding::{Fault, agreement, find_roots, interpolate};
 use itertools::Itertools;
 use reed_solomon::Plain;
 use std::alloc::{AllocError, Global};
 use std::fmt;
+
+// Each sum and product is proved not to wrap, and each width not to be 0. The numbers of a line have no bound to prove it from,
+// so sizes saturate here, and a width is at least 1.
 
 // How many terms stand in a row.
 const TERMS_IN_ROW: usize = 8;
@@ -25,11 +29,10 @@ struct Problem<'a> {
     word: &'a [u8],
 }
 
-// A polynomial in x and y: its coefficients in the order of its terms x^g·y^j with g + a·j < d.
+// A polynomial in x and y: its terms, and the coefficients in their order.
 #[derive(Drop)]
 struct Interpolant {
-    a: usize,
-    d: usize,
+    terms: Terms,
     coefficients: Vec<u8>,
 }
 
@@ -52,18 +55,18 @@ fn zeros(heap: Global, count: usize) -> Result<Vec<u8>, AllocError> {
 
 impl Interpolant {
     // The terms that are not 0.
-    fn terms(&self, heap: Global, digits: Digits) -> Result<Vec<Term>, AllocError> {
-        let mut terms = Vec::new(heap);
-        for j in 0..self.d {
-            for g in 0..self.d {
-                let c = coefficient_at(self.a, self.d, &self.coefficients, g, j).unwrap_or(0);
+    fn nonzero_terms(&self, heap: Global, digits: Digits) -> Result<Vec<Term>, AllocError> {
+        let mut nonzero = Vec::new(heap);
+        for j in 0..=self.terms.most_y() {
+            for g in 0..self.terms.d {
+                let c = self.terms.coefficient(&self.coefficients, g, j);
                 if c != 0 {
                     let c = digits.number(c);
-                    terms.push(Term { c, g, j })?;
+                    nonzero.push(Term { c, g, j })?;
                 }
             }
         }
-        Ok(terms)
+        Ok(nonzero)
     }
 }
 
@@ -88,9 +91,10 @@ impl Problem<'_> {
             &mut coefficients,
             &mut memory,
         )?;
+        // a degree of 0 has no terms, and `interpolate` refused it
+        let terms = Terms::new(self.a, d).ok_or(Fault::DegreeOutOfRange(self.a))?;
         Ok(Interpolant {
-            a: self.a,
-            d,
+            terms,
             coefficients,
         })
     }
@@ -103,14 +107,15 @@ impl Problem<'_> {
     // The roots, one behind the other.
     fn roots(&self, heap: Global, q: &Interpolant) -> Result<Vec<u8>, Stop> {
         let k = self.width();
-        let most = q.d.saturating_sub(1).checked_div(self.a).unwrap_or(0);
+        let d = q.terms.d;
+        let most = q.terms.most_y();
         let mut found = zeros(heap, most.saturating_mul(k))?;
-        let stages = q.d.saturating_mul(most.saturating_add(1));
+        let stages = d.saturating_mul(most.saturating_add(1));
         let mut memory = zeros(heap, stages.saturating_add(1).saturating_mul(k))?;
         let count = find_roots(
             &self.name.field,
             self.a,
-            q.d,
+            d,
             &q.coefficients,
             &mut found,
             &mut memory,
@@ -120,6 +125,7 @@ impl Problem<'_> {
     }
 
     // The user of a polynomial that has no more coefficients than the code's: its coefficients are the user's digits, lowest first.
+    // The tests have a fold of their own, which wraps: here a polynomial may be longer than any user's, and then it is none.
     fn user_of(&self, f: &[u8]) -> Option<u64> {
         let size = u64::from(self.code.alphabet());
         let user = f.iter().rev().try_fold(0u64, |user, c| {
@@ -148,8 +154,8 @@ impl Problem<'_> {
     fn report(&self, rt: &HostRuntime) -> Result<(), Stop> {
         let q = self.interpolant(rt.alloc())?;
         print_word(rt, self.digits, self.word)?;
-        println!(rt; "degree at most {}, D = {}", self.a, q.d)?;
-        print_terms(rt, &q.terms(rt.alloc(), self.digits)?)?;
+        println!(rt; "degree at most {}, D = {}", self.a, q.terms.d)?;
+        print_terms(rt, &q.nonzero_terms(rt.alloc(), self.digits)?)?;
         let found = self.roots(rt.alloc(), &q)?;
         let roots = found.chunks(self.width().max(1));
         let count = roots.len();

@@ -1,4 +1,6 @@
 // A code that is one of two kinds of code.
+// Generic, though only one pair is used: an `impl` gives the law of a code by a bound's name, `L.Code.lawful`, and there is no
+// such name for the law of a type like `Plain<NamedField>`.
 ghost use Rattle.tables.specs.declared.either.EitherCode.TheVariants.{Left, Right};
 
 use code::Code;

@@ -52,6 +52,7 @@ impl fmt::Display for KeyNumber {
     }
 }
 
+// A digit's value. `char::to_digit` takes the letters A to F too, which are none here.
 fn digit(byte: u8) -> Option<u8> {
     match byte {
         b'0'..=b'9' => Some(byte - b'0'),
@@ -63,7 +64,7 @@ fn digit(byte: u8) -> Option<u8> {
 fn read_digits(heap: Global, text: &str) -> Result<Vec<u8>, Stop> {
     text.bytes()
         .enumerate()
-        .map(|(place, byte)| digit(byte).ok_or(Stop::Unread(DigitFault::NotADigit(place))))
+        .map(|(place, byte)| digit(byte).ok_or(DigitFault::NotADigit(place).into()))
         .try_collect(heap)
 }
 
@@ -76,7 +77,7 @@ pub(crate) fn read_numbers(heap: Global, digits: Digits, text: &str) -> Result<V
             .chunks(2)
             .map(|pair| match pair {
                 [high, low] => Ok((*high << 4) | *low),
-                _ => Err(Stop::Unread(DigitFault::HalfANumber(values.len()))),
+                _ => Err(DigitFault::HalfANumber(values.len()).into()),
             })
             .try_collect(heap),
     }

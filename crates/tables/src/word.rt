@@ -14,11 +14,12 @@ fn spelled<C: Code>(heap: Global, code: &C, digits: &str) -> Result<Vec<u8>, Sto
     if came == wanted {
         Ok(word)
     } else {
-        Err(Stop::Unread(DigitFault::WrongLength { wanted, came }))
+        Err(DigitFault::WrongLength { wanted, came }.into())
     }
 }
 
 // The word that takes its numbers in turn from the tables of users.
+// The program `speed` and the tests make theirs themselves: library crates have no heap, and the tests rest on no program.
 fn mixed<C: Code>(heap: Global, code: &C, users: &[u64]) -> Result<Vec<u8>, Stop> {
     for user in users {
         check_user(code, *user)?;
