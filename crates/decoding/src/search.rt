@@ -86,8 +86,8 @@ pub(crate) struct Subject<'a, F: Field> {
 }
 
 impl<'a, F: Field> Subject<'a, F> {
-    // Finds the roots, where there is room for as many as there can be. The room is asked for here, since the checker does not
-    // cover a ghost field beside a `&mut`.
+    // Finds the roots, where there is room for as many as there can be. The room is asked for here: it is in slices that are
+    // written, and no type holds those.
     pub(crate) fn run(&self, found: &mut [u8], memory: &mut [u8]) -> usize
         requires room { found_bytes self.now.search.terms.a self.now.search.terms.d ≤ length found.old }
         requires memory { memory_bytes self.now.search.terms.a self.now.search.terms.d ≤ length memory.old }

@@ -9,8 +9,7 @@ use crate::shift::Shift;
 use field::Field;
 
 // How many powers of y and of x there is room for. The numbers are handed to its methods beside it: a type that held a `&mut` to
-// them could have no ghost field for their length, which the checker does not cover, and each method would also promise
-// that the type still lends the same slice.
+// them would save each method the clause on their length, and cost it two, that it lends the same slice and has the same shape.
 #[derive(Clone, Copy)]
 pub(crate) struct Shape {
     pub(crate) w: usize,

@@ -47,7 +47,7 @@ impl<'a, F: Field> Point<'a, F> {
     }
 
     // Makes the polynomial of each vector that is alive 0 at the point too. What `equation` holds before does not matter. It is
-    // written, so that its length stands in each contract: a ghost field beside a `&mut` is not covered by the check.
+    // written, so that its length stands in each contract: a type round the `&mut` would owe that it lends the same slice.
     pub(crate) fn impose(&self, terms: Terms, equation: &mut [u8], vectors: &mut [u8])
         requires wide { 0 < length equation.old }
         requires room { length equation.old ≤ term_count terms.a terms.d }
