@@ -56,7 +56,8 @@ impl<F: Field> Polynomial<'_, F> {
         })
     }
 
-    // The roots that are found, one behind the other, given no byte more than they want.
+    // The roots that are found, one behind the other, given no byte more than they want: worked out here, and not by the call that
+    // tells it.
     pub(crate) fn roots(&self, rt: &(impl Abort + AllocGlobal)) -> Result<Vec<u8>, Fail> {
         let most = self.bound.saturating_sub(1) / self.a.max(1);
         let k = self.a.saturating_add(1);

@@ -51,6 +51,7 @@ impl<'a, F: Field> Equation<'a, F> {
         ensures some { IfSome result (λ p. FirstFailing (F.Field.meaning self.now.field.now) (length self.now.coefficients.now) vectors.now self.now.coefficients.now p) }
         ensures none { IfNone result (Solves (F.Field.meaning self.now.field.now) (length self.now.coefficients.now) vectors.now self.now.coefficients.now) }
     {
+        // a loop: to a closure for `position` no lemma tells that the chunks it is given hold elements
         for (t, vector) in vectors.chunks(self.coefficients.len()).enumerate() {
             if vector[t] != 0 && self.value(vector) != 0 {
                 return Some(t);

@@ -7,7 +7,7 @@ use crate::stop::Stop;
 use crate::word::word_named;
 use bivariate::Terms;
 use code::Code;
-use decoding::{Fault, agreement, find_roots, interpolate};
+use decoding::{Fault, agreement, find_roots, interpolate, search_room};
 use itertools::Itertools;
 use reed_solomon::Plain;
 use std::alloc::{AllocError, Global};
@@ -106,21 +106,19 @@ impl Problem<'_> {
 
     // The roots, one behind the other.
     fn roots(&self, heap: Global, q: &Interpolant) -> Result<Vec<u8>, Stop> {
-        let k = self.width();
-        let d = q.terms.d;
-        let most = q.terms.most_y();
-        let mut found = zeros(heap, most.saturating_mul(k))?;
-        let stages = d.saturating_mul(most.saturating_add(1));
-        let mut memory = zeros(heap, stages.saturating_add(1).saturating_mul(k))?;
+        let Terms { a, d } = q.terms;
+        let room = search_room(a, d).ok_or(Fault::BoundOutOfRange(d))?;
+        let mut found = zeros(heap, room.found)?;
+        let mut memory = zeros(heap, room.memory)?;
         let count = find_roots(
             &self.name.field,
-            self.a,
+            a,
             d,
             &q.coefficients,
             &mut found,
             &mut memory,
         )?;
-        found.truncate(count.saturating_mul(k));
+        found.truncate(count.saturating_mul(self.width()));
         Ok(found)
     }
 
