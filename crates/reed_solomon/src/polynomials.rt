@@ -40,7 +40,7 @@ fn lowest_digit(number: u64, size: u64) -> (u8, u64)
 }
 
 // The value at x of the polynomial whose coefficients are the k lowest digits of `number`: k products and k sums. By recursion,
-// at most 8 deep, since the lowest digit is added last.
+// at most 8 deep, since the lowest digit is added last; over a slice of coefficients `bivariate` goes by a loop.
 fn value_at<F: Field>(field: &F, k: usize, number: u64, x: u8) -> u8
     requires { x < (F.Field.meaning field.now).size }
     ensures { result ≡ value_at (F.Field.meaning field.now) (digits (F.Field.meaning field.now).size k number) x }

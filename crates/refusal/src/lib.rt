@@ -14,6 +14,7 @@ pub enum Layer {
     Console,
 }
 
+// Written out, as that of a refusal is: its contract promises the text, and that of a derive does not.
 impl fmt::Display for Layer {
     ghost output = { λ layer. Some (layer_name layer) };
 

@@ -11,6 +11,7 @@ pub enum EitherCode<L: Code, R: Code> {
     Right(R),
 }
 
+// Each method asks the code that it is by a match, as those of `NamedField` do.
 impl<L: Code, R: Code> Code for EitherCode<L, R> {
     ghost meaning = { elim [ Left code ↦ L.Code.meaning code | Right code ↦ R.Code.meaning code ] };
 
