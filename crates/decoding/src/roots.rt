@@ -27,6 +27,7 @@ pub struct Room {
 pub fn search_room(a: usize, d: usize) -> Option<Room>
     ensures { MatchOption result ((within 1 a 255 && within 1 d 257) ≡ false) (λ r. ((within 1 a 255 && within 1 d 257) ≡ true) × (r.found ≡ found_bytes a d) × (r.memory ≡ memory_bytes a d)) }
 {
+    // the ranges that `check` refuses one by one
     if !(1..=255).contains(&a) || !(1..=257).contains(&d) {
         return None;
     }

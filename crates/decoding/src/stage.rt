@@ -9,7 +9,8 @@ use crate::shift::Shift;
 use field::Field;
 
 // How many powers of y and of x there is room for. The numbers are handed to its methods beside it: a type that held a `&mut` to
-// them would save each method the clause on their length, and cost it two, that it lends the same slice and has the same shape.
+// them would save each method the clause on their length, and cost it two, that it lends the same slice and has the same shape. That
+// not all are 0, and that they are elements, is so before some of these steps alone.
 #[derive(Clone, Copy)]
 pub(crate) struct Shape {
     pub(crate) w: usize,
@@ -37,7 +38,7 @@ impl Shape {
         ensures elements { Elements (F.Field.meaning shift.now.field.now) cells.new }
         ensures after { Shifted (F.Field.meaning shift.now.field.now) shift.now.c self.w self.d cells.old cells.new }
     {
-        // by index: no clause says what a slice holds after writes to its `chunks_exact_mut`
+        // by index: tried `chunks_exact_mut`, in whose loop no invariant can name the slice as it is written so far
         for g in 0..self.d {
             shift.apply(&mut cells[g * self.w..g * self.w + self.w]);
         }

@@ -48,6 +48,7 @@ pub(crate) fn decode<F: Field>(
     a: usize,
     word: &[u8],
 ) -> Result<Decoded, Fail> {
+    // n + 1 numbers and (n + 1)² bytes, as the call asks
     let w = word.len().saturating_add(1);
     let mut terms = vec![in rt.alloc(); 0u8; w]?;
     let mut memory = vec![in rt.alloc(); 0u8; w.saturating_mul(w)]?;

@@ -93,7 +93,7 @@ fn times_16(a: u8, b: u8) -> u8
 }
 
 // The inverse of an element other than 0: its 14th power, since the 15th is 1. A function for this power and for the 249th of
-// `Mod251` would be a loop over the bits of an exponent, longer than both chains.
+// `Mod251` would take the product as a closure and have a loop and a proof of its own, for two chains of 5 and 11 products.
 fn inverse_16(a: u8) -> u8
     requires { (0 < a) × (a < 16) }
     ensures { result ≡ reciprocal 16 product16 a }

@@ -83,7 +83,7 @@ impl<'a, F: Field> Equation<'a, F> {
     {
         let w = self.coefficients.len();
         let inverse = reciprocal(self.field, self.value(vector(w, vectors, p)));
-        // by index: of what is written through `chunks_mut` no proof knows the numbers
+        // by index: tried `chunks_mut`, in whose loop no invariant can name the slice as it is written so far
         for t in p + 1..w {
             if vectors[t * w + t] != 0 {
                 let (front, back) = vectors.split_at_mut(t * w);

@@ -1,8 +1,9 @@
 // A staircase of w vectors of w numbers, one behind the other. Vector t is alive while its own number, number t of it, is not 0:
-// it is 1 from the start and set to 0 to take the vector out, so that which are left stands within the w·w numbers themselves.
-// That they are so many is required of each call and in no struct. Where the slice is written, a struct round the `&mut` would
-// have to promise after each call that it still lends the same slice, one clause more than it saves; for the functions that only
-// read, a struct would have to be made anew at each call, since the slice is written between them.
+// it is 1 from the start and set to 0 to take the vector out, so that which are left stands within the w·w numbers themselves:
+// there is no more memory than these.
+// That they are so many, and elements, is required of each call and in no struct. Where the slice is written, a struct round the
+// `&mut` would have to promise after each call that it still lends the same slice, one clause more than it saves; for the
+// functions that only read, a struct would have to be made anew at each call, since the slice is written between them.
 ghost use Rattle.std.specs.Prelude.{◌≡◌, ℕ, ◌*◌, ◌<◌, length, IfSome, IfNone};
 ghost use Rattle.field.specs.Meaning.{FieldMeaning, FieldLaws};
 ghost use Rattle.interpolation.specs.Staircase.{vector, Alive, alive_count, Staircase};
@@ -14,7 +15,8 @@ pub(crate) fn start(w: usize, vectors: &mut [u8])
     ensures alive { alive_count w vectors.new w ≡ w }
 {
     vectors.fill(0);
-    // by index: of what is written through `chunks_mut` or `step_by` no proof knows the numbers
+    // by index: tried `step_by` and `chunks_mut`, after which no proof knows the numbers, and `enumerate` would ask each of the w·w
+    // numbers where it stands
     for t in 0..w {
         vectors[t * w + t] = 1;
     }

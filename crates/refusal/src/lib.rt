@@ -107,6 +107,7 @@ impl Refusal {
     }
 }
 
+// Written out, as that of a layer is.
 impl fmt::Display for Refusal {
     ghost output = { λ refusal. Some (sentence refusal) };
 

@@ -61,6 +61,7 @@ impl Handed {
     // As many as words of n positions want.
     fn new(heap: Global, n: usize) -> anyhow::Result<Handed> {
         let roots = root_bytes(K - 1, n).ok_or(Fault::WordTooLong(n))?;
+        // (n + 1)·(n + 2) for the making of Q, as the calls ask
         let w = n.saturating_add(1);
         let equations = w.saturating_mul(w.saturating_add(1));
         Ok(Handed {

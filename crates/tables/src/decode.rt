@@ -81,6 +81,7 @@ fn print_terms(rt: &HostRuntime, terms: &[Term]) -> Result<(), Stop> {
 
 impl Problem<'_> {
     fn interpolant(&self, heap: Global) -> Result<Interpolant, Stop> {
+        // n + 1 numbers and (n + 1)² bytes, as the call asks
         let w = self.word.len().saturating_add(1);
         let mut coefficients = zeros(heap, w)?;
         let mut memory = zeros(heap, w.saturating_mul(w))?;

@@ -28,7 +28,7 @@ impl FromStr for NamedField {
     }
 }
 
-// Each method asks the field of that name by a match: no function may make a `&dyn Field` and hand it out.
+// Each method asks the field of that name by a match: no function may make a trait object of `Field` and hand it out.
 impl Field for NamedField {
     ghost meaning = { named_meaning };
 
