@@ -22,9 +22,11 @@ impl<'a, F: Field> Shift<'a, F> {
         requires elements { Elements (F.Field.meaning self.now.field.now) p.old }
         ensures after { p.new ≡ times_linear (F.Field.meaning self.now.field.now) self.now.c (slice_index p.old 0) (drop 1 p.old) }
     {
+        // read once: behind the reference it would be read anew after each place that is written
+        let c = self.c;
         // by index, since each place reads its neighbour
         for i in 0..p.len() - 1 {
-            p[i] = multiply_add(self.field, p[i], self.c, p[i + 1]).unwrap();
+            p[i] = multiply_add(self.field, p[i], c, p[i + 1]).unwrap();
         }
     }
 

@@ -176,6 +176,10 @@ pub(crate) fn decode(
     let code = name.make()?;
     print_code(rt, &code)?;
     let word = word_named(rt.alloc(), &code, word)?;
+    // `interpolate` refuses it too, but is handed (n + 1)² bytes, which a degree that is refused need not wait for
+    if !(1..=255).contains(&degree) {
+        return Err(Fault::DegreeOutOfRange(degree).into());
+    }
     let problem = Problem {
         name,
         code: &code,

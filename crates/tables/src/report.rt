@@ -37,21 +37,30 @@ pub(crate) fn check_user<C: Code>(code: &C, user: u64) -> Result<(), Refusal> {
 fn print_table<C: Code>(rt: &HostRuntime, code: &C, user: u64) -> Result<(), Stop> {
     check_user(code, user)?;
     println!(rt; "user {user}")?;
-    let table = (0..code.length())
-        .filter_map(|position| code.symbol(user, position))
-        .collect::<Vec<u8>>(rt.alloc())?;
-    print_rows(rt, Digits::of_size(code.alphabet()), &table)
+    let digits = Digits::of_size(code.alphabet());
+    let n = code.length();
+    // so that no more than a row of the table is kept
+    for from in (0..n).step_by(NUMBERS_IN_ROW) {
+        let row = (from..n)
+            .take(NUMBERS_IN_ROW)
+            .filter_map(|position| code.symbol(user, position))
+            .collect::<Vec<u8>>(rt.alloc())?;
+        print_rows(rt, digits, &row)?;
+    }
+    Ok(())
 }
 
 // In how many positions each two of the users agree.
 fn print_agreements<C: Code>(rt: &HostRuntime, code: &C, users: &[u64]) -> Result<(), Stop> {
     let overlap = code.overlap();
-    for pair in users.iter().tuple_combinations(rt.alloc())? {
-        let (u, v) = pair?;
-        if let Some(shared) = shared_positions(code, *u, *v) {
-            println!(rt;
-                "users {u} and {v} agree in {shared} positions, and different users in at most {overlap}"
-            )?;
+    // two loops, for `tuple_combinations` would keep a list of the users beside that of the line
+    for (i, u) in users.iter().enumerate() {
+        for v in users.iter().skip(i + 1) {
+            if let Some(shared) = shared_positions(code, *u, *v) {
+                println!(rt;
+                    "users {u} and {v} agree in {shared} positions, and different users in at most {overlap}"
+                )?;
+            }
         }
     }
     Ok(())
