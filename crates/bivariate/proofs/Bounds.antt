@@ -3,7 +3,7 @@
 use Rattle.std.proofs.Common.{◌≡◌, ℕ, zero, suc, ◌+◌, ◌-◌, ◌*◌, ◌<◌, ◌≤◌, ap, ⊎_elim, suc-mul, mul_comm, mul-le-mul, mul-suc, mul-add, add-one, arith}
 use Rattle.std.proofs.lemmas.Bool.{cases_lt}
 use Rattle.bivariate.specs.Terms.{term_count, degree_bound, most_y}
-use Rattle.bivariate.proofs.Degrees.{first_terms, term_count_more, degree_bound_least, degree_bound_low}
+use Rattle.bivariate.proofs.Degrees.{first_terms, term_count_more, degree_bound_least, degree_bound_low, degree_bound_high}
 use Rattle.bivariate.proofs.Widths.{first_terms_front, most_terms, most_low, most_below}
 
 -- half of what k + 1 powers of y would have if each had d + 1 terms
@@ -61,6 +61,16 @@ module _ (a n : ℕ) (p : 1 ≤ a) where
 
   wide : most_y a (degree_bound a n) < degree_bound a n
   wide = most_below a (degree_bound a n) p (degree_bound_low a n p)
+
+  pub bound_area : degree_bound a n * (most_y a (degree_bound a n) + 1) ≤ 2 * n + most_y a (degree_bound a n) + 1
+  bound_area = area n (degree_bound a n) (most_y a (degree_bound a n)) half
+
+  pub bound_most : most_y a (degree_bound a n) ≤ n
+  bound_most = omega (arith, wide, degree_bound_high a n p)
+
+  -- for up to 256 points there are few powers of y
+  pub bound_most_few : n ≤ 256 → most_y a (degree_bound a n) ≤ 31
+  bound_most_few h = few n (degree_bound a n) (most_y a (degree_bound a n)) half wide h
 
   pub bound_grid : a ≤ 7 → n ≤ 256 → (a + 1) * (degree_bound a n * (most_y a (degree_bound a n) + 1) + most_y a (degree_bound a n) + 1) ≤ 8192
   bound_grid s h = within n (degree_bound a n) (most_y a (degree_bound a n)) half a wide s h

@@ -54,6 +54,10 @@ pub weighted_divided : (v w d r : ℕ) (cs cs' : List ℕ) → Divided w d r cs 
 weighted_divided v w d r cs cs' s u g j a b t =
     elim (cases_lt (g + r) d) [ inl l ↦ s.moved g j a b l ∙ u (g + r) j l b (omega arith) | inr l ↦ s.cleared g j a b l ]
 
+pub nonzero_divided : (w d r : ℕ) (cs cs' : List ℕ) (j : ℕ) → r < d → j < w → Divided w d r cs cs' → ¬ (cell w cs r j ≡ 0) → Nonzero w d cs'
+nonzero_divided w d r cs cs' j a b s z =
+    (0, j, omega arith, b, λ e. z (ap (λ (q : ℕ). cell w cs q j) (let x : r ≡ 0 + r = omega arith in x) ∙ sym (s.moved 0 j (omega arith) b (omega arith)) ∙ e))
+
 -- a coefficient that is not 0, or none
 in_row : (p : List ℕ) → Zeros p ⊎ ((g : ℕ) × (g < length p) × ¬ (get_or p g 0 ≡ 0))
 in_row [] = inl tt

@@ -1,14 +1,15 @@
 -- The laws of a concatenation, from those of its parts.
 -- Assumes nothing.
-use Rattle.std.specs.Prelude.{◌≡◌, ℕ, zero, suc, ◌+◌, ◌*◌, ◌/◌, ◌%◌, ◌<◌, ◌≤◌, Bool, true, false, cond, ◌==◌, nat_eq, refl}
-use Rattle.std.proofs.Common.{ap, ◌∙◌, zero-le, mod-lt, mul-pos, zero-mul, one-mul, suc-mul, add-mul, mul-le-mul_right, arith}
+use Rattle.std.specs.Prelude.{◌≡◌, ℕ, zero, suc, ◌+◌, ◌*◌, ◌/◌, ◌%◌, ◌<◌, ◌≤◌, Bool, true, false, cond, Some, None, Option, ◌==◌, nat_eq, refl}
+use Rattle.std.proofs.Common.{sym, ap, ap₂, ◌∙◌, ⊎_elim, zero-le, mod-lt, mul-pos, zero-mul, one-mul, suc-mul, add-mul, mul-le-mul_right, arith}
 use Rattle.std.proofs.Math.Nat.{le-min}
-use Rattle.std.proofs.lemmas.Bool.{eqb-false}
-use Rattle.std.proofs.lemmas.Nat.{div_below, div-mul-add, mod-mul-add}
+use Rattle.std.proofs.lemmas.Bool.{cases_lt, eqb-false}
+use Rattle.std.proofs.lemmas.Nat.{div_below, le-div, div-mul-add, mod-mul-add}
 use Rattle.field.specs.Polynomial.{agreements}
-use Rattle.code.specs.Meaning.{CodeMeaning, CodeLaws}
+use Rattle.code.specs.Meaning.{CodeMeaning, CodeLaws, symbol_at}
 use Rattle.code.specs.Concatenation.{concatenated}
 use Rattle.code.specs.Counting.{agreements_le, agreements_same, agreements_split}
+use Rattle.code.specs.Symbols.{symbol_some, symbol_in, symbol_no_user, symbol_no_position}
 
 module _ (o i : CodeMeaning) (lo : CodeLaws o) (li : CodeLaws i) (covered : o.alphabet ≤ i.users) where
   some : 0 < i.length
@@ -77,3 +78,31 @@ module _ (o i : CodeMeaning) (lo : CodeLaws o) (li : CodeLaws i) (covered : o.al
             li.symbol_below _ _ (omega (arith, lo.symbol_below u (p / i.length) x within)) (mod-lt p some);
         overlap_holds = λ u v x y ne. concatenated_few u v x y ne;
       }
+
+  -- ---- what its parts answer when they are asked for the symbol of its user u at its position p
+
+  module _ (u p block place : ℕ) (block-is : block ≡ p / i.length) (place_is : place ≡ p % i.length) where
+    -- an outer symbol is an inner user, whose symbol it is
+    pub outer_some : (s : ℕ) (r : Option ℕ) → Some s ≡ symbol_at o u block → r ≡ symbol_at i s place → r ≡ symbol_at (concatenated o i) u p
+    outer_some s r h k =
+        let found = symbol_some o u block s h in
+        let user : s < i.users = omega (arith, lo.symbol_below u block found.0 found.1, covered) in
+        let inside : p < o.length * i.length =
+        ⊎_elim (λ h. h) (λ h. absurd (omega (arith, le-div o.length p i.length some h))) (cases_lt p (o.length * i.length)) in
+        k ∙ symbol_in i s place user (omega (arith, mod-lt p some))
+        ∙ ap₂ (λ (s j : ℕ). Some (i.symbol s j)) (found.2 ∙ ap (o.symbol u) block-is) place_is
+        ∙ sym (symbol_in (concatenated o i) u p found.0 inside)
+
+    -- without an outer symbol, the user or the position is out of range
+    pub outer_none : None ≡ symbol_at o u block → None ≡ symbol_at (concatenated o i) u p
+    outer_none h =
+        ⊎_elim
+        (λ x. ⊎_elim
+        (λ y.
+        let inside : block < o.length = omega (arith, div_below p i.length o.length some y) in
+        let z : None ≡ Some (o.symbol u block) = h ∙ symbol_in o u block x inside in
+        let no : ◌≡◌ {A = ℕ} 0 1 = cc in absurd (omega arith))
+        (λ y. sym (symbol_no_position (concatenated o i) u p y))
+        (cases_lt p (o.length * i.length)))
+        (λ x. sym (symbol_no_user (concatenated o i) u p x))
+        (cases_lt u o.users)

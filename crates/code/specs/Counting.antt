@@ -41,6 +41,12 @@ agreements_split f g a (suc n) =
     ∙ ap (λ (x : ℕ). x + cond (f (a + n) == g (a + n)) 1 0) (agreements_split f g a n)
     ∙ add_assoc (agreements f g a) (agreements (λ k. f (a + k)) (λ k. g (a + k)) n) (cond (f (a + n) == g (a + n)) 1 0)
 
+-- one place more, where somebody has looked at it
+pub agreements_next : (f g : ℕ → ℕ) (i n n' : ℕ) (b : Bool) → n ≡ agreements f g i → b ≡ (f i == g i) → n' ≡ n + cond b 1 0
+    → n' ≡ agreements f g (i + 1)
+agreements_next f g i n n' b e eb e' =
+    e' ∙ ap₂ (λ (x : ℕ) (b : Bool). x + cond b 1 0) e eb ∙ sym (ap (agreements f g) (add-one i))
+
 -- the places below a, and those of the k from a on that pass a test of whether the functions agree
 pub agreements_listed : (f g : ℕ → ℕ) (test : ℕ → Bool) (k a : ℕ) → ((i : ℕ) → i < a + k → test i ≡ (f i == g i))
     → agreements f g a + count_by test (range_with_len a k) ≡ agreements f g (a + k)
