@@ -4,9 +4,9 @@
 mod explore;
 mod last;
 mod roots;
-mod search;
 mod shift;
 mod stage;
+mod subject;
 mod words;
 
 pub use bivariate::{agreement, coefficient_at, degree_bound, value_at};

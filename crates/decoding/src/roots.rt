@@ -4,7 +4,7 @@ ghost use Rattle.refusal.specs.Tables.{Answers, within};
 ghost use Rattle.bivariate.specs.Terms.{most_y, polynomial};
 ghost use Rattle.decoding.specs.Decoding.{pieces, only_zeros, found_bytes, memory_bytes, RootsFound, root_rows};
 
-use crate::search::{Search, Subject};
+use crate::subject::{Limits, Subject};
 use bivariate::{Terms, first_stranger};
 use field::Field;
 use interpolation::Fault;
@@ -16,7 +16,7 @@ fn only_zeros(numbers: &[u8]) -> bool
     numbers.iter().all(|number| *number == 0)
 }
 
-// How many bytes a search wants: those for what is found, and those of its memory.
+// How many bytes finding roots wants: those for what is found, and those of its memory.
 #[derive(Clone, Copy)]
 pub struct Room {
     pub found: usize,
@@ -31,12 +31,12 @@ pub fn search_room(a: usize, d: usize) -> Option<Room>
     if !(1..=255).contains(&a) || !(1..=257).contains(&d) {
         return None;
     }
-    let search = Search {
+    let limits = Limits {
         terms: Terms { a, d },
     };
     Some(Room {
-        found: search.found_bytes(),
-        memory: search.memory_bytes(),
+        found: limits.found_bytes(),
+        memory: limits.memory_bytes(),
     })
 }
 
@@ -49,7 +49,7 @@ fn check<'a, F: Field>(
     room: usize,
     memory: usize,
 ) -> Result<Subject<'a, F>, Fault>
-    ensures { Answers result (root_rows (F.Field.meaning field.now) a d coefficients.now room memory) (λ s. (s.field.now ≡ field.now) × (s.coefficients.now ≡ coefficients.now) × (s.search.terms.a ≡ a) × (s.search.terms.d ≡ d)) }
+    ensures { Answers result (root_rows (F.Field.meaning field.now) a d coefficients.now room memory) (λ s. (s.field.now ≡ field.now) × (s.coefficients.now ≡ coefficients.now) × (s.limits.terms.a ≡ a) × (s.limits.terms.d ≡ d)) }
 {
     if !(1..=255).contains(&a) {
         return Err(Fault::DegreeOutOfRange(a));
@@ -57,17 +57,17 @@ fn check<'a, F: Field>(
     if !(1..=257).contains(&d) {
         return Err(Fault::BoundOutOfRange(d));
     }
-    let search = Search {
+    let limits = Limits {
         terms: Terms { a, d },
     };
-    if coefficients.len() > search.term_count() {
+    if coefficients.len() > limits.term_count() {
         return Err(Fault::TooManyCoefficients(coefficients.len()));
     }
-    if room < search.found_bytes() {
-        return Err(Fault::RoomTooShort(search.found_bytes()));
+    if room < limits.found_bytes() {
+        return Err(Fault::RoomTooShort(limits.found_bytes()));
     }
-    if memory < search.memory_bytes() {
-        return Err(Fault::MemoryTooShort(search.memory_bytes()));
+    if memory < limits.memory_bytes() {
+        return Err(Fault::MemoryTooShort(limits.memory_bytes()));
     }
     if let Some(i) = first_stranger(field, coefficients) {
         return Err(Fault::NotAnElement(i));
@@ -77,7 +77,7 @@ fn check<'a, F: Field>(
     }
     Ok(Subject {
         field,
-        search,
+        limits,
         coefficients,
     })
 }

@@ -6,7 +6,7 @@ ghost use Rattle.bivariate.specs.Terms.{degree_bound};
 ghost use Rattle.decoding.specs.Decoding.{pieces, decoding_rows, Decoded, bytes_answer};
 
 use crate::roots::find_roots;
-use crate::search::Search;
+use crate::subject::Limits;
 use bivariate::first_stranger;
 use field::Field;
 use interpolation::{Fault, interpolate};
@@ -28,8 +28,8 @@ pub fn root_bytes(a: usize, n: usize) -> Option<usize>
     if !(1..=255).contains(&a) || n > 256 {
         return None;
     }
-    let search = Search::for_word(a, n);
-    Some(search.found_bytes() + search.memory_bytes())
+    let limits = Limits::for_word(a, n);
+    Some(limits.found_bytes() + limits.memory_bytes())
 }
 
 // Refuses what cannot be decoded. `decode` checks before its calls, so that a refusal names its own sizes; they have other
@@ -50,7 +50,7 @@ fn check<F: Field>(
     if n > field.size() as usize {
         return Err(Fault::WordTooLong(n));
     }
-    let wanted = Search::for_word(a, n);
+    let wanted = Limits::for_word(a, n);
     if room < wanted.found_bytes() {
         return Err(Fault::RoomTooShort(wanted.found_bytes()));
     }

@@ -12,7 +12,7 @@ use crate::staircase::{first_alive, start};
 use bivariate::{Terms, first_stranger};
 use field::Field;
 
-// Refuses what cannot be interpolated. The search and decoding have tables of their own, with other rows.
+// Refuses what cannot be interpolated. Finding roots and decoding have tables of their own, with other rows.
 fn check<F: Field>(
     field: &F,
     a: usize,

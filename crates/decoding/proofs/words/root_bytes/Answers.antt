@@ -4,6 +4,6 @@ use Rattle.decoding.proofs.words.root_bytes.Goals as goal
 
 pub returns-clause-few : goal.returns-clause-few
 returns-clause-few c =
-    let search = c.for_word-search in
-    bytes_bounded c.args.a c.args.n (omega (arith, search.ensures.weight, search.result.terms.weight)) search.result.terms.a search.result.terms.d c.found_bytes.result c.memory_bytes.result
-    (omega (arith, c.if-n-gt256.false)) search.ensures.weight search.ensures.bound c.found_bytes.ensures c.memory_bytes.ensures
+    let limits = c.for_word-limits in
+    bytes_bounded c.args.a c.args.n (omega (arith, limits.ensures.weight, limits.result.terms.weight)) limits.result.terms.a limits.result.terms.d c.found_bytes.result c.memory_bytes.result
+    (omega (arith, c.if-n-gt256.false)) limits.ensures.weight limits.ensures.bound c.found_bytes.ensures c.memory_bytes.ensures

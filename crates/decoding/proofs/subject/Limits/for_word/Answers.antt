@@ -2,7 +2,7 @@ use Rattle.std.proofs.Common.{◌≡◌, arith}
 use Rattle.std.proofs.lemmas.Grind.{common_steps}
 use Rattle.bivariate.specs.Terms.{degree_bound}
 use Rattle.bivariate.proofs.Degrees.{degree_bound_high}
-use Rattle.decoding.proofs.search.Search.for_word.Goals as goal
+use Rattle.decoding.proofs.subject.Limits.for_word.Goals as goal
 
 pub invariant_of-result : goal.invariant_of-result
 invariant_of-result c =

@@ -5,14 +5,14 @@ use Rattle.bivariate.specs.Terms.{polynomial}
 use Rattle.decoding.specs.Roots.{Told}
 use Rattle.decoding.proofs.FirstStage.{LaidOut, stage_nonzero, few, next_elements, next_weighted, first_told}
 use Rattle.decoding.proofs.Found.{always_some, roots_found}
-use Rattle.decoding.proofs.search.Subject.run.Goals as goal
-use Rattle.decoding.proofs.search.Subject.run.Goals.{After-lay_out, After-explore}
-use Rattle.decoding.proofs.search.Subject.run.Given as given
+use Rattle.decoding.proofs.subject.Subject.run.Goals as goal
+use Rattle.decoding.proofs.subject.Subject.run.Goals.{After-lay_out, After-explore}
+use Rattle.decoding.proofs.subject.Subject.run.Given as given
 
 laid_out : (g : given.Over) (c : After-lay_out g)
-    → LaidOut (g.F.Field.meaning c.args.self.now.field.now) c.args.self.now.search.terms.a c.args.self.now.search.terms.d c.args.self.now.coefficients.now c.width.result c.lay_out.new.cells
+    → LaidOut (g.F.Field.meaning c.args.self.now.field.now) c.args.self.now.limits.terms.a c.args.self.now.limits.terms.d c.args.self.now.coefficients.now c.width.result c.lay_out.new.cells
 laid_out g c =
-    let t = c.args.self.now.search.terms in
+    let t = c.args.self.now.limits.terms in
     record {
       weight = t.weight;
       degree = t.degree;
@@ -26,8 +26,8 @@ laid_out g c =
 
 -- what exploring told, of the polynomial that was searched
 told : (g : given.Over) (c : After-explore g)
-    → Told (g.F.Field.meaning c.args.self.now.field.now) (polynomial c.args.self.now.search.terms.a c.args.self.now.search.terms.d c.args.self.now.coefficients.now)
-    (suc c.args.self.now.search.terms.a) (suc c.args.self.now.search.terms.a) [] c.args.found.now c.explore.new.found c.explore.result
+    → Told (g.F.Field.meaning c.args.self.now.field.now) (polynomial c.args.self.now.limits.terms.a c.args.self.now.limits.terms.d c.args.self.now.coefficients.now)
+    (suc c.args.self.now.limits.terms.a) (suc c.args.self.now.limits.terms.a) [] c.args.found.now c.explore.new.found c.explore.result
 told g c =
     first_told (g.F.Field.meaning c.args.self.now.field.now) (g.met.F.Field.lawful c.args.self.now.field.now) _ _ _ _ _ (laid_out g (goal.at.After-explore g c).After-lay_out)
     c.divide.new.cells c.divide.ensures.same_length c.divide.ensures.divided
@@ -63,6 +63,6 @@ returns-clause-roots g c =
     let at = goal.at.returns-clause-roots g c in
     let m = g.F.Field.meaning c.args.self.now.field.now in
     let laws = g.met.F.Field.lawful c.args.self.now.field.now in
-    let t = c.args.self.now.search.terms in
+    let t = c.args.self.now.limits.terms in
     roots_found m laws _ _ _ c.args.found.now c.requires.room (few m laws _ _ _ _ _ (laid_out g at.After-lay_out)) c.unwrap.result c.explore.new.found
     (subst (Told m (polynomial t.a t.d c.args.self.now.coefficients.now) (suc t.a) (suc t.a) [] c.args.found.now c.explore.new.found) c.unwrap.ensures (told g at.After-explore))

@@ -3,7 +3,7 @@ use Rattle.bivariate.specs.Bivariate.{coefficient}
 use Rattle.bivariate.specs.Grid.{cell}
 use Rattle.bivariate.specs.Terms.{polynomial}
 use Rattle.decoding.proofs.Inputs.{laid_out}
-use Rattle.decoding.proofs.search.Search.lay_out.Goals as goal
+use Rattle.decoding.proofs.subject.Limits.lay_out.Goals as goal
 
 pub returns-clause-cells : goal.returns-clause-cells
 returns-clause-cells c =

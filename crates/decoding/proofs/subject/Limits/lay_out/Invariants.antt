@@ -1,7 +1,7 @@
 use Rattle.std.proofs.Common.{◌≡◌, ℕ, ◌/◌, ◌%◌, ◌<◌, length, get_or}
 use Rattle.bivariate.specs.Bivariate.{coefficient}
 use Rattle.bivariate.specs.Terms.{polynomial}
-use Rattle.decoding.proofs.search.Search.lay_out.Given as goal
+use Rattle.decoding.proofs.subject.Limits.lay_out.Given as goal
 
 abbrev pub invariant-loop-k : goal.invariant-loop-k
 invariant-loop-k l =

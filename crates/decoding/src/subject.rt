@@ -1,4 +1,4 @@
-// A search for the roots of a polynomial in x and y, in bytes that are handed in.
+// A polynomial in x and y whose roots are to be found, in bytes that are handed in.
 ghost use Rattle.std.specs.Prelude.{◌≡◌, ℕ, suc, ◌+◌, ◌*◌, ◌<◌, ◌≤◌, length, drop};
 ghost use Rattle.bivariate.specs.Bivariate.{Elements, Elements-prop, Zeros, coefficient};
 ghost use Rattle.bivariate.specs.Grid.{cell};
@@ -9,24 +9,24 @@ use crate::stage::{Shape, Stage};
 use bivariate::Terms;
 use field::Field;
 
-// The terms that the polynomial may have, so few that the bytes for the search can be counted.
+// The terms that the polynomial may have, so few that the bytes for finding its roots can be counted.
 #[derive(Clone, Copy)]
-pub(crate) struct Search {
+pub(crate) struct Limits {
     pub(crate) terms: Terms,
     ghost light: { terms.a ≤ 255 },
     ghost small: { terms.d ≤ 257 },
 }
 
-impl Search {
-    // The search for polynomials of degree at most a in a word of n numbers.
-    pub(crate) fn for_word(a: usize, n: usize) -> Search
+impl Limits {
+    // Those for polynomials of degree at most a in a word of n numbers.
+    pub(crate) fn for_word(a: usize, n: usize) -> Limits
         requires weight { 1 ≤ a }
         requires light { a ≤ 255 }
         requires few { n ≤ 256 }
         ensures weight { result.terms.a ≡ a }
         ensures bound { result.terms.d ≡ degree_bound a n }
     {
-        Search {
+        Limits {
             terms: Terms::exceeding(a, n as u32).unwrap(),
         }
     }
@@ -78,9 +78,9 @@ impl Search {
 #[derive(Drop)]
 pub(crate) struct Subject<'a, F: Field> {
     pub(crate) field: &'a F,
-    pub(crate) search: Search,
+    pub(crate) limits: Limits,
     pub(crate) coefficients: &'a [u8],
-    ghost terms: { length coefficients.now ≤ term_count search.terms.a search.terms.d },
+    ghost terms: { length coefficients.now ≤ term_count limits.terms.a limits.terms.d },
     ghost elements: { Elements (F.Field.meaning field.now) coefficients.now } by { Elements-prop (F.Field.meaning field.now) coefficients.now },
     ghost nonzero: { ¬ (Zeros coefficients.now) },
 }
@@ -89,21 +89,21 @@ impl<'a, F: Field> Subject<'a, F> {
     // Finds the roots, where there is room for as many as there can be. The room is asked for here: it is in slices that are
     // written, and no type holds those.
     pub(crate) fn run(&self, found: &mut [u8], memory: &mut [u8]) -> usize
-        requires room { found_bytes self.now.search.terms.a self.now.search.terms.d ≤ length found.old }
-        requires memory { memory_bytes self.now.search.terms.a self.now.search.terms.d ≤ length memory.old }
+        requires room { found_bytes self.now.limits.terms.a self.now.limits.terms.d ≤ length found.old }
+        requires memory { memory_bytes self.now.limits.terms.a self.now.limits.terms.d ≤ length memory.old }
         ensures same_length { length found.new ≡ length found.old }
-        ensures roots { RootsFound (F.Field.meaning self.now.field.now) (polynomial self.now.search.terms.a self.now.search.terms.d self.now.coefficients.now) (suc self.now.search.terms.a) (most_y self.now.search.terms.a self.now.search.terms.d) (pieces (suc self.now.search.terms.a) result found.new) }
-        ensures beyond { drop (result * suc self.now.search.terms.a) found.new ≡ drop (result * suc self.now.search.terms.a) found.old }
+        ensures roots { RootsFound (F.Field.meaning self.now.field.now) (polynomial self.now.limits.terms.a self.now.limits.terms.d self.now.coefficients.now) (suc self.now.limits.terms.a) (most_y self.now.limits.terms.a self.now.limits.terms.d) (pieces (suc self.now.limits.terms.a) result found.new) }
+        ensures beyond { drop (result * suc self.now.limits.terms.a) found.new ≡ drop (result * suc self.now.limits.terms.a) found.old }
     {
-        let search = self.search;
-        let k = search.terms.a + 1;
+        let limits = self.limits;
+        let k = limits.terms.a + 1;
         let shape = Shape {
-            w: search.width(),
-            d: search.terms.d,
+            w: limits.width(),
+            d: limits.terms.d,
         };
         let (path, stages) = memory.split_at_mut(k);
         let (cells, deeper) = stages.split_at_mut(shape.d * shape.w);
-        search.lay_out(self.coefficients, cells);
+        limits.lay_out(self.coefficients, cells);
         shape.divide(cells);
         let stage = Stage {
             field: self.field,
