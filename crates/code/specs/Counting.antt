@@ -41,7 +41,7 @@ agreements_split f g a (suc n) =
     ∙ ap (λ (x : ℕ). x + cond (f (a + n) == g (a + n)) 1 0) (agreements_split f g a n)
     ∙ add_assoc (agreements f g a) (agreements (λ k. f (a + k)) (λ k. g (a + k)) n) (cond (f (a + n) == g (a + n)) 1 0)
 
--- one place more, where somebody has looked at it
+-- one place more, of which it is known whether the functions agree there
 pub agreements_next : (f g : ℕ → ℕ) (i n n' : ℕ) (b : Bool) → n ≡ agreements f g i → b ≡ (f i == g i) → n' ≡ n + cond b 1 0
     → n' ≡ agreements f g (i + 1)
 agreements_next f g i n n' b e eb e' =

@@ -92,7 +92,7 @@ impl Problem<'_> {
             &mut coefficients,
             &mut memory,
         )?;
-        // a degree of 0 has no terms, and `interpolate` refused it
+        // a degree of 0 has no terms, and was refused
         let terms = Terms::new(self.a, d).ok_or(Fault::DegreeOutOfRange(self.a))?;
         Ok(Interpolant {
             terms,
@@ -176,7 +176,7 @@ pub(crate) fn decode(
     let code = name.make()?;
     print_code(rt, &code)?;
     let word = word_named(rt.alloc(), &code, word)?;
-    // `interpolate` refuses it too, but is handed (n + 1)² bytes, which a degree that is refused need not wait for
+    // `interpolate` refuses it too, but not before it is handed (n + 1)² bytes
     if !(1..=255).contains(&degree) {
         return Err(Fault::DegreeOutOfRange(degree).into());
     }
